@@ -1,0 +1,26 @@
+-- Document 01, "The sheet": program `lay` writes a line per question, or one refusal line for a bad sheet.
+use Prim.Native.Nat.{ℕ}
+use Prim.Native.Char.{code}
+use mathlib.Core.List.{List, [], _∷_, _++_}
+use Rattle.arith.specs.Refusals.{Result, ok, refused}
+use Rattle.spirv.specs.Questions.{Question}
+use Rattle.sheet.specs.Sheet.{Sheet, readSheet}
+use Rattle.answers.specs.Lines.{AnswerLine, answer, resultLine}
+
+-- fields parted by commas, ended by LF
+unfoldable pub printed : AnswerLine → List ℕ
+printed [] = code "\n" ∷ []
+printed (f ∷ []) = f ++ (code "\n" ∷ [])
+printed (f ∷ g ∷ gs) = f ++ (code "," ∷ printed (g ∷ gs))
+
+abbrev pub answerLines : Sheet → List Question → List ℕ
+answerLines s [] = []
+answerLines s (q ∷ qs) = printed (resultLine (answer s q)) ++ answerLines s qs
+
+abbrev pub outputOf : Result Sheet → List ℕ
+outputOf (ok s) = answerLines s (s .questions)
+outputOf (refused n) = printed (resultLine (refused n))
+
+-- what `lay` writes for the bytes that it reads
+unfoldable pub layOutput : List ℕ → List ℕ
+layOutput input = outputOf (readSheet input)

@@ -1,0 +1,4 @@
+pub mod Results
+pub mod Powers
+pub mod RoundUp
+pub mod Examples

@@ -1,0 +1,4 @@
+pub mod Options
+pub mod Refusals
+pub mod Numbers
+pub mod Statements

@@ -1,0 +1,6 @@
+pub mod Meaning
+pub mod Walk
+pub mod Vulkan
+pub mod Aligned
+pub mod Statements
+pub mod Edges

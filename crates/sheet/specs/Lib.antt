@@ -1,0 +1,4 @@
+pub mod Fields
+pub mod Grammar
+pub mod Sheet
+pub mod Statements
