@@ -1,0 +1,7 @@
+pub mod OfElements
+pub mod OfMembers
+pub mod InSheet
+pub mod Parts
+pub mod Powers
+pub mod Refusals
+pub mod Lookup
