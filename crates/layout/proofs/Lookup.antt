@@ -221,6 +221,6 @@ lookup-found s t start end found h =
     by (Handle k) a c i e = absurd (never i)
     by (HandleArray k n) a c i e = absurd (never i)
     by (Concrete m) a c i e =
-        let p = parts s t (Concrete m) m refl .0 a in
+        let p = parts s (Concrete m) m (t, inl a) refl in
         let same : componentsContaining (answerIn s) (m .components) start end ≡ found = ap (λ (x : Components). componentsContaining (answerIn s) x start end) (value-is i) ∙ e in
         (m, a, subst (λ (f : List ℕ). FoundIn s start end f (m .components)) same (found-in s t start end m (m .components) refl p))

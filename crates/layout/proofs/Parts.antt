@@ -3,6 +3,7 @@ use Prim.Native.Nat.{ℕ, zero, suc, _*_, _<_, _≤_}
 use mathlib.Core.Path.{_≡_, refl, sym, ap, _∙_, subst}
 use mathlib.Core.Bool.{Bool, true, false}
 use mathlib.Core.List.{List, [], _∷_}
+use mathlib.Core.Logic.{⊎-elim}
 use mathlib.Core.Option.{Option, none, some}
 use native.Mathlib.Omega.{arith}
 use lib.ListN.{getElem?}
@@ -12,13 +13,13 @@ use Rattle.arith.proofs.Results.{never, value-is, passed, no-some, some-is}
 use Rattle.arith.proofs.RoundUp.{rounds-up}
 use Rattle.spirv.specs.Decl.{Decl}
 use Rattle.shapes.specs.declared.LayoutConfig.{LayoutConfig}
-use Rattle.shapes.specs.Shapes.{Components, Scalar, Elements, Fields, Opaque, Buffer, MemTypeLayout, TypeLayout, Handle, HandleArray, Concrete, sizeOf, alignOf, dynOf, contentsOf}
+use Rattle.shapes.specs.Shapes.{Components, Scalar, Elements, Fields, HandleLayout, MemTypeLayout, TypeLayout, Handle, HandleArray, Concrete, sizeOf, alignOf, dynOf, contentsOf}
 use Rattle.sheet.specs.Sheet.{Sheet}
 use Rattle.sheet.specs.Statements.{All}
 use Rattle.layout.specs.Arrays.{Answer, numberLayout, ArrayParams, lengthOrZero, hasZeroLength, strideWithout, arrayLayout, runtimeParams}
 use Rattle.layout.specs.Structs.{blockOr}
 use Rattle.layout.specs.Layouts.{Rule, ofSetting, ofWidth, ofElements, ofMembers, ofHandle, noLayout, ruleOf, byRule, layoutOf, answerIn, runtimeArrayIn}
-use Rattle.layout.specs.Statements.{FieldOf, FieldsOf, ElementsOf, PartsOf, Parts, partTypes, RefersLower}
+use Rattle.layout.specs.Statements.{FieldOf, FieldsOf, ElementsOf, PartsOf, Parts, Handles, partTypes, RefersLower}
 use Rattle.layout.proofs.OfElements.{OfElements, ArrayIs, array-is}
 use Rattle.layout.proofs.OfMembers.{Laid, Ends, OfMembers, StructIs, struct-is, same-length, MemberIs, member-is}
 use Rattle.layout.proofs.InSheet.{MadeIn, laid-in}
@@ -80,10 +81,40 @@ module _ (s : Sheet) (below : ℕ → Answer) (kept : (u : ℕ) (m : TypeLayout)
 
 pub parts : Parts
 unfolding layoutOf runtimeArrayIn
-parts s t l m c = (
-  λ h. let i = laid-in s t l h in rule-parts s (i .below) (i .kept) (i .decl) _ l m c (sym (i .made) ∙ h),
-  λ h. array-parts s (answerIn s) (λ u x e. e) _ l m c h,
-)
+parts s l m (t, of) c = ⊎-elim of-type of-array of
+  where
+    of-type : answerIn s t ≡ ok l → PartsOf s m (m .components)
+    of-type h = let i = laid-in s t l h in rule-parts s (i .below) (i .kept) (i .decl) _ l m c (sym (i .made) ∙ h)
+
+    of-array : runtimeArrayIn s t ≡ ok l → PartsOf s m (m .components)
+    of-array h = array-parts s (answerIn s) (λ u x e. e) _ l m c h
+
+-- ---- handles
+
+block-no-array : (block : Bool) (m : MemTypeLayout) (h : HandleLayout) (n : ℕ) → blockOr block m ≡ HandleArray h n → ⊥
+block-no-array true m h n e = let z : _≡_ {A = ℕ} 0 1 = cc in omega arith
+block-no-array false m h n e = let z : _≡_ {A = ℕ} 0 1 = cc in omega arith
+
+pub handles : Handles
+unfolding layoutOf byRule numberLayout runtimeArrayIn
+handles s h n (t, of) = ⊎-elim of-type (of-array (answerIn s) (λ u x e. e) _) of
+  where
+    of-array : (below : ℕ → Answer) → ((u : ℕ) (m : TypeLayout) → below u ≡ ok m → answerIn s u ≡ ok m) → (p : ArrayParams)
+        → arrayLayout (s .setting) below p ≡ ok (HandleArray h n) → (elem : ℕ) × (answerIn s elem ≡ ok (Handle h))
+    of-array below kept p g = let i = array-is (s .setting) below p (HandleArray h n) g in (p .elem, kept (p .elem) (Handle h) (i .0))
+
+    by-case : (below : ℕ → Answer) → ((u : ℕ) (m : TypeLayout) → below u ≡ ok m → answerIn s u ≡ ok m) → (d : Decl) (r : Rule)
+        → byRule (s .setting) below d r ≡ ok (HandleArray h n) → (elem : ℕ) × (answerIn s elem ≡ ok (Handle h))
+    by-case below kept d (ofSetting size align) g = let e = value-is g in absurd (let z : _≡_ {A = ℕ} 0 1 = cc in omega arith)
+    by-case below kept d (ofWidth width) g = let e = value-is (passed _ _ g) in absurd (let z : _≡_ {A = ℕ} 0 1 = cc in omega arith)
+    by-case below kept d (ofElements p) g = of-array below kept p g
+    by-case below kept d (ofMembers block) g =
+        let i = struct-is (s .setting) below block (d .members) (d .decorations) (HandleArray h n) g in absurd (block-no-array block (i .contents) h n (i .is))
+    by-case below kept d ofHandle g = let e = value-is g in absurd (let z : _≡_ {A = ℕ} 0 1 = cc in omega arith)
+    by-case below kept d (noLayout k) g = absurd (never g)
+
+    of-type : answerIn s t ≡ ok (HandleArray h n) → (elem : ℕ) × (answerIn s elem ≡ ok (Handle h))
+    of-type g = let i = laid-in s t (HandleArray h n) g in by-case (i .below) (i .kept) (i .decl) (ruleOf (s .setting) (i .decl .type)) (sym (i .made) ∙ g)
 
 -- ---- lower types
 

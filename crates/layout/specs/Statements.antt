@@ -8,7 +8,7 @@ use mathlib.Core.Option.{Option, none, some}
 use lib.ListN.{length, getElem?}
 use Rattle.arith.specs.Numbers.{max-u32}
 use Rattle.arith.specs.Refusals.{ok, refused, unsupported, ambiguous}
-use Rattle.shapes.specs.Shapes.{Components, Scalar, Elements, Fields, MemTypeLayout, TypeLayout, Concrete, sizeOf, alignOf, legacyOf, dynOf, contentsOf, shownMemory}
+use Rattle.shapes.specs.Shapes.{Components, Scalar, Elements, Fields, HandleLayout, MemTypeLayout, TypeLayout, Handle, HandleArray, Concrete, sizeOf, alignOf, legacyOf, dynOf, contentsOf, shownMemory}
 use Rattle.sheet.specs.Sheet.{Sheet, goodSetting}
 use Rattle.sheet.specs.Statements.{All, GoodSheet}
 use Rattle.layout.specs.Layouts.{answerIn, runtimeArrayIn}
@@ -43,11 +43,16 @@ PartsOf s m Scalar = dynOf m ≡ 0
 PartsOf s m (Elements stride elem len) = ElementsOf s m stride elem len
 PartsOf s m (Fields offsets types) = FieldsOf s m offsets types
 
--- of each type, and of the runtime array from which 67 and 70 start
+-- a layout of the sheet: of a type, or of the runtime array from which 67 and 70 start
+abbrev pub IsLayoutIn : Sheet → TypeLayout → Type 0
+IsLayoutIn s l = (t : ℕ) × ((answerIn s t ≡ ok l) ⊎ (runtimeArrayIn s t ≡ ok l))
+
 abbrev pub Parts : Type 0
-Parts =
-    (s : Sheet) (t : ℕ) (l : TypeLayout) (m : MemTypeLayout) → contentsOf l ≡ some m
-    → (answerIn s t ≡ ok l → PartsOf s m (m .components)) × (runtimeArrayIn s t ≡ ok l → PartsOf s m (m .components))
+Parts = (s : Sheet) (l : TypeLayout) (m : MemTypeLayout) → IsLayoutIn s l → contentsOf l ≡ some m → PartsOf s m (m .components)
+
+-- the handles of a handle array are those of a type
+abbrev pub Handles : Type 0
+Handles = (s : Sheet) (h : HandleLayout) (n : ℕ) → IsLayoutIn s (HandleArray h n) → (elem : ℕ) × (answerIn s elem ≡ ok (Handle h))
 
 -- ---- a layout never refers to a type that isn't lower
 

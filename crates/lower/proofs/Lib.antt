@@ -1,0 +1,5 @@
+pub mod Moves
+pub mod Onward
+pub mod Neighbours
+pub mod StepsFit
+pub mod Other
