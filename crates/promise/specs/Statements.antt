@@ -1,26 +1,18 @@
--- Document 01, "The typed walk", and the third demand: what is promised of chains, as statements.
-use Prim.Native.Nat.{ℕ, suc, _+_, _≤_, _<_}
+-- Document 01, "The typed walk", and the third demand: what is promised of chains, as statements. (That no two neighbours are both constant offsets is lower's NoNeighbours.)
+use Prim.Native.Nat.{ℕ, _+_, _≤_, _<_}
 use mathlib.Core.Path.{_≡_}
-use mathlib.Core.Bool.{Bool, true, false}
 use mathlib.Core.List.{List, [], _∷_}
 use mathlib.Core.Option.{Option, none, some}
 use lib.IntN.{ℤ, pos}
-use lib.ListN.{length}
 use Rattle.arith.specs.Refusals.{Result, ok, refused}
-use Rattle.arith.specs.Numbers.{isI32}
 use Rattle.spirv.specs.declared.ChainOp.{ChainOp}
 use Rattle.spirv.specs.declared.Index.{Index}
 use Rattle.shapes.specs.Shapes.{MemTypeLayout, Concrete, sizeOf, dynOf}
 use Rattle.sheet.specs.Sheet.{Sheet, pointeeIn}
 use Rattle.lower.specs.declared.QPtrOp.{QPtrOp}
-use Rattle.lower.specs.declared.QPtrOp.the-variants.{HandleArrayIndex, BufferData, Offset, DynOffset}
-use Rattle.lower.specs.Chain.{lowerChain}
-use Rattle.promise.specs.Meaning.{Values, value, run, neighbours}
+use Rattle.lower.specs.Statements.{Accepted}
+use Rattle.promise.specs.Meaning.{Values, value, run}
 use Rattle.promise.specs.Walk.{Walked, typeNo, Kind, handleArray, buffer, opaque, struct, array, scalar, unlaid, kindOf, layoutAt, memoryAt, strideAt, Place, step, walk, start}
-
--- an accepted chain: one to which the rules give no refusal
-abbrev pub Accepted : Sheet → ChainOp → (ptr : ℕ) → List Index → List QPtrOp → Type 0
-Accepted s op ptr is steps = lowerChain s op ptr is ≡ ok steps
 
 -- the walk of a chain from its start, to its end: each index finds its part
 pub record Walks (s : Sheet) (op : ChainOp) (ptr : ℕ) (is : List Index) (v : Values) : Type 0 where
@@ -39,30 +31,6 @@ abbrev pub SameByte : Type 0
 SameByte =
     (s : Sheet) (op : ChainOp) (ptr : ℕ) (is : List Index) (steps : List QPtrOp) → Accepted s op ptr is steps
     → (v : Values) → Same s op ptr is steps v
-
--- ---- no neighbours: no two constant offsets stand side by side
-
-abbrev pub NoNeighbours : Type 0
-NoNeighbours =
-    (s : Sheet) (op : ChainOp) (ptr : ℕ) (is : List Index) (steps : List QPtrOp) → Accepted s op ptr is steps
-    → neighbours steps ≡ false
-
--- ---- steps fit: the bytes of each constant offset fit signed 32 bits, and there are at most one more steps than indices
-
-abbrev pub FitsStep : QPtrOp → Type 0
-FitsStep (HandleArrayIndex i) = Unit {0}
-FitsStep BufferData = Unit {0}
-FitsStep (Offset z) = isI32 z ≡ true
-FitsStep (DynOffset stride bound i) = Unit {0}
-
-abbrev pub FitSteps : List QPtrOp → Type 0
-FitSteps [] = Unit {0}
-FitSteps (s ∷ ss) = FitsStep s × FitSteps ss
-
-abbrev pub StepsFit : Type 0
-StepsFit =
-    (s : Sheet) (op : ChainOp) (ptr : ℕ) (is : List Index) (steps : List QPtrOp) → Accepted s op ptr is steps
-    → FitSteps steps × (length steps ≤ suc (length is))
 
 -- ---- inside: in range, the part reached lies wholly inside the memory walked
 
