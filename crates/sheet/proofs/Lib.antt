@@ -1,0 +1,5 @@
+pub mod Fields
+pub mod Forms
+pub mod Types
+pub mod GoodSheet
+pub mod Refusals
