@@ -1,3 +1,6 @@
+pub mod Opened
+pub mod Examples
+pub mod Limits
 pub mod Fields
 pub mod Forms
 pub mod Types
