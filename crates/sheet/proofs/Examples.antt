@@ -64,7 +64,7 @@ refusal text = number (readSheet (bytes text))
 abbrev below : String → ℕ
 below text = number (readSheet (bytes "G,1,1,1,1,1,1\n" ++ bytes text))
 
--- a sheet without line 1; line 1 without its LF, which is 1 before 3; another line 1
+-- a sheet without line 1, or with another line there; line 1 without its LF, which is 1 before 3
 no-line-1 : map refusal ("" ∷ "\n" ∷ "B\n" ∷ "G,1,1,1,1,1,1" ∷ "G,1,3,1,1,1,1" ∷ []) ≡ 1 ∷ 1 ∷ 1 ∷ 1 ∷ 1 ∷ []
 unfolding opened
 no-line-1 = refl
