@@ -5,13 +5,15 @@ use mathlib.Core.Bool.{Bool, true, false, cond}
 use mathlib.Core.List.{List, [], _∷_}
 use mathlib.Core.Logic.{inl, inr}
 use mathlib.Core.Option.{Option, none, some}
+use lib.ListN.{getElem?}
+use Rattle.arith.specs.Options.{_>>=_}
 use Rattle.arith.specs.Refusals.{Result, ok, refused}
 use Rattle.arith.proofs.Results.{never, passed, value-is}
 use Rattle.spirv.specs.declared.Length.the-variants.{Fixed, Specialization}
 use Rattle.spirv.specs.declared.SpvType.{SpvType}
 use Rattle.spirv.specs.declared.SpvType.the-variants as spv
 use Rattle.spirv.specs.Decl.{Decl}
-use Rattle.shapes.specs.Shapes.{Components, Scalar, Elements, Fields, HandleLayout, Opaque, Buffer, MemTypeLayout, TypeLayout, Handle, HandleArray, Concrete}
+use Rattle.shapes.specs.Shapes.{Components, Scalar, Elements, Fields, HandleLayout, Opaque, Buffer, MemTypeLayout, TypeLayout, Handle, HandleArray, Concrete, offsetsOf}
 use Rattle.sheet.specs.Sheet.{Sheet, declIn}
 use Rattle.layout.specs.Arrays.{Answer, numberLayout, ArrayParams, lengthOrZero, arrayLayout, vectorParams, fixedParams, runtimeParams}
 use Rattle.layout.specs.Structs.{blockOr, structLayout}
@@ -20,13 +22,22 @@ use Rattle.layout.specs.Statements.{IsLayoutIn}
 use Rattle.layout.proofs.OfElements.{ArrayIs, array-is}
 use Rattle.layout.proofs.OfMembers.{struct-is}
 use Rattle.layout.proofs.InSheet.{MadeIn, laid-in}
-use Rattle.promise.specs.Walk.{Walked, typeNo, runtimeArrayOf, Kind, handleArray, buffer, opaque, struct, array, scalar, isHandle, arrayBy, structBy, kindOfType, kindOfDecl, kindOf, layoutAt}
+use Rattle.promise.specs.Walk.{Walked, typeNo, runtimeArrayOf, Kind, handleArray, buffer, opaque, struct, array, scalar, isHandle, arrayBy, structBy, kindOfType, kindOfDecl, kindOf, layoutAt, memoryOf, memoryAt, strideOfElements, offsetAt, strideAt}
 
 -- the layout at a place of the walk is one of the sheet
 pub layout-in : (s : Sheet) (w : Walked) (l : TypeLayout) → layoutAt s w ≡ ok l → IsLayoutIn s l
 unfolding layoutAt
 layout-in s (typeNo t) l h = (t, inl h)
 layout-in s (runtimeArrayOf t) l h = (t, inr h)
+
+-- offsets and strides are those of the layout there
+pub offset-is : (s : Sheet) (w : Walked) (m : MemTypeLayout) (os ms : List ℕ) → memoryOf (layoutAt s w) ≡ some m → m .components ≡ Fields os ms → (n : ℕ) → offsetAt s w n ≡ getElem? os n
+unfolding offsetAt memoryAt _>>=_
+offset-is s w m os ms h e n = rw h (ap (λ (c : Components). getElem? (offsetsOf c) n) e)
+
+pub stride-is : (s : Sheet) (w : Walked) (m : MemTypeLayout) (stride elem n : ℕ) → memoryOf (layoutAt s w) ≡ some m → m .components ≡ Elements stride elem n → strideAt s w ≡ some stride
+unfolding strideAt memoryAt _>>=_
+stride-is s w m stride elem n h e = rw h (ap strideOfElements e)
 
 -- ---- a handle is what the sheet declares as one
 
