@@ -1,3 +1,4 @@
 pub mod Agreement
 pub mod SameByte
 pub mod Inside
+pub mod Vulkan
