@@ -30,7 +30,7 @@ use Rattle.layout.specs.Layouts.{Rule, ofSetting, ofWidth, ofElements, o
 use Rattle.layout.specs.Statements.{IsLayoutRefusal, LayoutRefusals}
 use Rattle.layout.proofs.InSheet.{MadeIn, made-in}
 
-abbrev Only : {A : Type 0} → Result A → Type 0
+abbrev pub Only : {A : Type 0} → Result A → Type 0
 Only r = RefusedBy IsLayoutRefusal r
 
 -- ---- each rule
@@ -93,6 +93,10 @@ final-only x = by-test (eqb (x .dyn) 0)
     by-test true = fit-by _ (omega arith)
     by-test false = fine-by
 
+pub array-only : (cfg : LayoutConfig) (below : ℕ → Answer) (p : ArrayParams) → Only (below (p .elem)) → Only (arrayLayout cfg below p)
+unfolding arrayLayout
+array-only cfg below p h = and-by _ _ (when-by _ _ (omega arith)) (then-by _ _ h λ e g. element-only cfg p e)
+
 -- ---- a type, by lower ones
 
 module _ (cfg : LayoutConfig) (t : ℕ) (below : ℕ → Answer) (ih : (u : ℕ) → u < t → Only (below u)) where
@@ -126,10 +130,10 @@ module _ (cfg : LayoutConfig) (t : ℕ) (below : ℕ → Answer) (ih : (u : ℕ)
   rule-fits spv.Unsupported f = omega arith
 
   rule-only : (d : Decl) (r : Rule) → RuleFits r → All (λ u. u < t) (d .members) → Only (byRule cfg below d r)
-  unfolding byRule numberLayout arrayLayout structLayout
+  unfolding byRule numberLayout structLayout
   rule-only d (ofSetting size align) f a = fine-by
   rule-only d (ofWidth width) f a = and-by _ _ (unless-by _ _ (omega arith)) fine-by
-  rule-only d (ofElements p) f a = and-by _ _ (when-by _ _ (omega arith)) (then-by _ _ (ih (p .elem) f) λ e h. element-only cfg p e)
+  rule-only d (ofElements p) f a = array-only cfg below p (ih (p .elem) f)
   rule-only d (ofMembers block) f a =
       then-by _ _ (members-only (d .members) a) λ ms h. then-by _ _ (offsets-only 0 (d .decorations)) λ given g.
       then-by _ _ (place-only cfg given ms) λ p k. then-by _ _ (final-only (p .extent)) λ size j. fine-by
@@ -138,7 +142,7 @@ module _ (cfg : LayoutConfig) (t : ℕ) (below : ℕ → Answer) (ih : (u : ℕ)
 
 -- ---- all types
 
-element-there : {A : Type 0} (xs : List A) (t : ℕ) → t < length xs → (a : A) × (getElem? xs t ≡ some a)
+pub element-there : {A : Type 0} (xs : List A) (t : ℕ) → t < length xs → (a : A) × (getElem? xs t ≡ some a)
 element-there [] t h = absurd (omega arith)
 element-there (x ∷ xs) zero h = (x, refl)
 element-there (x ∷ xs) (suc t) h = element-there xs t (omega arith)

@@ -3,3 +3,4 @@ pub mod Onward
 pub mod Neighbours
 pub mod StepsFit
 pub mod Other
+pub mod Refusals

@@ -2,3 +2,4 @@ pub mod Agreement
 pub mod SameByte
 pub mod Inside
 pub mod Vulkan
+pub mod Table

@@ -269,7 +269,7 @@ module _
 
 -- ---- all types
 
-decl-there : (s : Sheet) (t : ℕ) (d : Decl) → declIn s t ≡ ok d → getElem? (s .types) t ≡ some d
+pub decl-there : (s : Sheet) (t : ℕ) (d : Decl) → declIn s t ≡ ok d → getElem? (s .types) t ≡ some d
 unfolding declIn
 decl-there s t d h = by (getElem? (s .types) t) h
   where

@@ -3,4 +3,5 @@ pub mod Walk
 pub mod Vulkan
 pub mod Aligned
 pub mod Statements
+pub mod Table
 pub mod Edges
