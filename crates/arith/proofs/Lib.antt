@@ -1,3 +1,4 @@
+pub mod Opened
 pub mod Results
 pub mod Powers
 pub mod RoundUp

@@ -6,13 +6,21 @@ use native.Mathlib.Decide.{decLt}
 use native.Mathlib.Omega.{arith}
 use lib.ListN.{getD, getElem?}
 use Rattle.arith.specs.Refusals.{Result, ok, refused, misread}
-use Rattle.arith.proofs.Results.{never}
+use Rattle.arith.proofs.Results.{never, value-is}
 use Rattle.spirv.specs.Decl.{Decl, filled}
 use Rattle.spirv.proofs.Filled.{MadeAt, filled-at, filled-missing}
 use Rattle.shapes.specs.Shapes.{TypeLayout}
 use Rattle.sheet.specs.Sheet.{Sheet, declared, declIn}
 use Rattle.layout.specs.Arrays.{Answer}
 use Rattle.layout.specs.Layouts.{layoutOf, layouts, answerIn}
+
+pub decl-there : (s : Sheet) (t : ℕ) (d : Decl) → declIn s t ≡ ok d → getElem? (s .types) t ≡ some d
+unfolding declIn
+decl-there s t d h = by (getElem? (s .types) t) h
+  where
+    by : (o : Option Decl) → declared o ≡ ok d → o ≡ some d
+    by none g = absurd (never g)
+    by (some c) g = ap some (value-is g)
 
 -- the answer r of type t
 pub record MadeIn (s : Sheet) (t : ℕ) (r : Answer) : Type 0 where

@@ -1,3 +1,4 @@
+pub mod Opened
 pub mod OfElements
 pub mod OfMembers
 pub mod InSheet

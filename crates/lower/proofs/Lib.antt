@@ -1,3 +1,4 @@
+pub mod Opened
 pub mod Moves
 pub mod Onward
 pub mod Neighbours

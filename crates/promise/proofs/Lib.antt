@@ -1,5 +1,9 @@
+pub mod Opened
 pub mod Agreement
 pub mod SameByte
 pub mod Inside
 pub mod Vulkan
 pub mod Table
+pub mod EdgeTable
+pub mod Examples
+pub mod NonVacuous

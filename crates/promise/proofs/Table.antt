@@ -25,6 +25,7 @@ use Rattle.layout.specs.Arrays.{runtimeParams}
 use Rattle.layout.specs.Layouts.{answerIn, runtimeArrayIn}
 use Rattle.layout.specs.Lookup.{inMemoryOnly, lookup}
 use Rattle.layout.specs.Statements.{Has, PartsOf, IsLayoutRefusal}
+use Rattle.layout.proofs.InSheet.{decl-there}
 use Rattle.layout.proofs.Parts.{parts}
 use Rattle.layout.proofs.Refusals.{refused-only, array-only, element-there}
 use Rattle.lower.specs.declared.Pending.the-variants.{Empty}
@@ -35,7 +36,6 @@ use Rattle.lower.proofs.Moves.{field-is}
 use Rattle.lower.proofs.Onward.{start-in}
 use Rattle.lower.proofs.Refusals.{IsWalkRefusal, laid-only, chain-only}
 use Rattle.answers.specs.Lines.{answer}
-use Rattle.promise.proofs.Vulkan.{decl-there}
 use Rattle.promise.specs.Table.{layoutRefusals, refusalsOf, TableNumbers}
 
 -- ---- numbers in a list

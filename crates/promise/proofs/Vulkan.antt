@@ -6,7 +6,6 @@ use mathlib.Core.List.{List, [], _∷_}
 use mathlib.Core.Option.{Option, none, some}
 use native.Mathlib.Omega.{arith}
 use lib.Dec.{leb}
-use lib.ListN.{getD, getElem?}
 use Rattle.arith.specs.Refusals.{Result, ok, refused, misread}
 use Rattle.arith.specs.Numbers.{round-up}
 use Rattle.arith.proofs.Results.{never, passed, not-refused, value-is, no-some, some-is, let-through}
@@ -19,13 +18,13 @@ use Rattle.spirv.specs.Decl.{Decl, filled}
 use Rattle.spirv.proofs.Filled.{MadeAt, filled-at, by-lower}
 use Rattle.shapes.specs.declared.LayoutConfig.{LayoutConfig}
 use Rattle.shapes.specs.Shapes.{Opaque, Buffer, MemTypeLayout, TypeLayout, Handle, HandleArray, Concrete, alignOf, legacyOf, shownMemory}
-use Rattle.sheet.specs.Sheet.{Sheet, declared, declIn}
+use Rattle.sheet.specs.Sheet.{Sheet}
 use Rattle.layout.specs.Arrays.{Answer, numberLayout, ArrayParams, arrayLayout, vectorLegacy, aggregateLegacy, vectorParams, fixedParams, runtimeParams}
 use Rattle.layout.specs.Structs.{blockOr}
 use Rattle.layout.specs.Layouts.{Rule, ofSetting, ofWidth, ofElements, ofMembers, ofHandle, noLayout, ruleOf, byRule, layoutOf, answerIn}
 use Rattle.layout.proofs.OfElements.{OfElements, ArrayIs, array-is}
 use Rattle.layout.proofs.OfMembers.{Laid, largest, largest-least, OfMembers, struct-is}
-use Rattle.layout.proofs.InSheet.{MadeIn, laid-in}
+use Rattle.layout.proofs.InSheet.{decl-there, laid-in}
 use Rattle.layout.proofs.Powers.{pow-vector, number-power, shown-block}
 use Rattle.promise.specs.Vulkan.{Vk, Vks, scalarAlignment, largestScalar, baseAlignment, largestBase, extendedAlignment, largestExtended, Covered, vkVector, vkMatrix, vkArray, joined, alone, vkMembers, vkStruct, vkType, vkOf, covered}
 use Rattle.promise.specs.Vulkan.Vk.{number, vector, array, struct}
@@ -268,14 +267,6 @@ module _
   of-type d spv.Unsupported k l m e g c = absurd (no-some e)
 
 -- ---- all types
-
-pub decl-there : (s : Sheet) (t : ℕ) (d : Decl) → declIn s t ≡ ok d → getElem? (s .types) t ≡ some d
-unfolding declIn
-decl-there s t d h = by (getElem? (s .types) t) h
-  where
-    by : (o : Option Decl) → declared o ≡ ok d → o ≡ some d
-    by none g = absurd (never g)
-    by (some c) g = ap some (value-is g)
 
 all-right : (s : Sheet) (t : ℕ) (k : Vk) (l : TypeLayout) (m : MemTypeLayout) → covered (s .types) t ≡ some k → answerIn s t ≡ ok l → shownMemory l ≡ some m
     → Right (s .setting) k m × HandleIsStruct l k

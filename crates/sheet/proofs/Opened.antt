@@ -1,14 +1,12 @@
--- All that reading a sheet computes with, under one name: whatever says `unfolding opened` computes what a sheet reads as. Assumes nothing.
-use Rattle.arith.specs.Options as options
-use Rattle.arith.specs.Refusals.{_>>=_, _>>_, refuse_unless_}
-use Rattle.arith.specs.Numbers.{isPowerOfTwo}
-use Rattle.decimal.specs.Text.{split}
-use Rattle.decimal.specs.Decimal.{readNumber}
-use Rattle.spirv.specs.Decl.{before}
-use Rattle.sheet.specs.Fields.{readFlag, readType, readLength, readStride, readOp, readIndex, readDecoration}
-use Rattle.sheet.specs.Grammar.{grammar, readLine}
-use Rattle.sheet.specs.Sheet.{decorateLast, firstLine, nextLine, readLines, readPieces, readSheet}
+-- All that a theorem by computation unfolds of this crate and those below it, under one name. Made by tools/opened.
+use Rattle.arith.proofs.Opened as of-arith
+use Rattle.decimal.proofs.Opened as of-decimal
+use Rattle.spirv.proofs.Opened as of-spirv
+use Rattle.shapes.proofs.Opened as of-shapes
+use Rattle.sheet.specs.Fields as fields
+use Rattle.sheet.specs.Grammar as grammar
+use Rattle.sheet.specs.Sheet as sheet
 
 unfoldable pub opened : Unit {0}
-unfolding options._>>=_ _>>=_ _>>_ refuse_unless_ isPowerOfTwo split readNumber before readFlag readType readLength readStride readOp readIndex readDecoration grammar readLine decorateLast firstLine nextLine readLines readPieces readSheet
+unfolding of-arith.opened of-decimal.opened of-spirv.opened of-shapes.opened fields.readFlag fields.readType fields.readLength fields.readStride fields.readOp fields.readIndex fields.readDecoration grammar.grammar grammar.readLine sheet.decorateLast sheet.firstLine sheet.nextLine sheet.readLines sheet.readPieces sheet.readSheet sheet.declIn sheet.pointeeIn
 opened = tt
