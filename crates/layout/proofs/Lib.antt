@@ -6,3 +6,4 @@ pub mod Parts
 pub mod Powers
 pub mod Refusals
 pub mod Lookup
+pub mod Examples

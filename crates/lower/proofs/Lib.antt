@@ -5,3 +5,4 @@ pub mod Neighbours
 pub mod StepsFit
 pub mod Other
 pub mod Refusals
+pub mod Examples

@@ -6,24 +6,15 @@ use mathlib.Core.List.{List, [], _∷_, map}
 use mathlib.Core.Option.{Option, none, some}
 use lib.IntN.{ℤ, pos, negsuc}
 use Rattle.arith.specs.Refusals.{Result, ok, refused}
-use Rattle.decimal.specs.Text.{bytes}
 use Rattle.spirv.specs.declared.ChainOp.{ChainOp}
 use Rattle.spirv.specs.declared.ChainOp.the-variants.{AccessChain, PtrAccessChain}
 use Rattle.spirv.specs.declared.Index.{Index}
 use Rattle.spirv.specs.declared.Index.the-variants.{Known, Unknown}
-use Rattle.sheet.specs.Sheet.{Sheet, readSheet}
+use Rattle.sheet.proofs.OfText.{of}
 use Rattle.promise.specs.Meaning.{Values, WhichHandle, own, chosen, Spot}
 use Rattle.promise.specs.Walk.{Walked, typeNo, runtimeArrayOf, Place, walk, start}
 use Rattle.promise.specs.Vulkan.{Vk, scalarAlignment, baseAlignment, extendedAlignment, Covered, covered}
 use Rattle.promise.proofs.Opened.{opened}
-
--- what is asked of the sheet that a text is
-abbrev of : {A : Type 0} → String → (Sheet → A) → Result A
-of text ask = by (readSheet (bytes text)) ask
-  where
-    by : {A : Type 0} → Result Sheet → (Sheet → A) → Result A
-    by (ok s) ask = ok (ask s)
-    by (refused n) ask = refused n
 
 -- ---- where Vulkan decides
 

@@ -6,3 +6,4 @@ pub mod Forms
 pub mod Types
 pub mod GoodSheet
 pub mod Refusals
+pub mod OfText
