@@ -3,16 +3,16 @@ use Prim.Native.Nat.{ℕ, zero, suc, _+_, _-_, _*_, _<_, _≤_}
 use native.Mathlib.Numerals.{add-one}
 use native.Mathlib.Omega.{arith}
 use mathlib.Core.Path.{_≡_, refl, sym, ap, _∙_}
-use mathlib.Core.Bool.{Bool, true, false, cond, _&&_}
+use mathlib.Core.Bool.{Bool, true, false, cond, _&&_, not}
 use mathlib.Core.List.{List, [], _∷_}
 use mathlib.Core.Option.{Option, none, some}
 use lib.Dec.{leb, eqb}
 use lib.ListN.{length, getD, drop, drop-of-length-le}
 use lib.Seq.{drop-cons}
-use borrow.Author.Tests.{leb-true, leb-false, le-leb, lt-leb, eq-eqb, ne-eqb}
+use borrow.Author.Tests.{leb-true, leb-false, le-leb, lt-leb}
 use Rattle.arith.specs.Numbers.{max-u32}
 use Rattle.arith.specs.Options.{_>>=_}
-use Rattle.decimal.specs.Decimal.{digit-0, digit-9, allDigits, spelled, readNumber}
+use Rattle.decimal.specs.Decimal.{digit-0, digit-9, allDigits, wellBegun, spelled, readNumber}
 use Rattle.decimal.specs.Reading.{reading, withDigit}
 use Rattle.decimal.specs.declared.Reading.{Reading}
 
@@ -71,28 +71,27 @@ same v (b ∷ bs) h = by (v * 10 + (b - digit-0)) (same (v * 10 + (b - digit-0))
 
 -- ---- the first byte
 
-pub empty : (f : List ℕ) → length f ≡ 0 → readNumber f ≡ none
-unfolding readNumber
-empty [] h = refl
-empty (b ∷ bs) h = absurd (omega arith)
+pub none-begun : (f : List ℕ) → length f ≡ 0 → wellBegun f ≡ false
+none-begun [] h = refl
+none-begun (b ∷ bs) h = absurd (omega arith)
 
-pub zero-alone : (f : List ℕ) → getD f 0 0 ≡ digit-0 → length f ≡ 1 → readNumber f ≡ some 0
-unfolding readNumber
-zero-alone [] z h = absurd (omega arith)
-zero-alone (b ∷ []) z h = rw z
-zero-alone (b ∷ c ∷ bs) z h = absurd (omega arith)
+pub one-begun : (f : List ℕ) → length f ≡ 1 → wellBegun f ≡ true
+one-begun [] h = absurd (omega arith)
+one-begun (b ∷ []) h = refl
+one-begun (b ∷ c ∷ bs) h = absurd (omega arith)
 
-pub zero-first : (f : List ℕ) → getD f 0 0 ≡ digit-0 → (length f ≡ 1 → ⊥) → readNumber f ≡ none
-unfolding readNumber
-zero-first [] z h = refl
-zero-first (b ∷ []) z h = absurd (h refl)
-zero-first (b ∷ c ∷ bs) z h = rw (eq-eqb b digit-0 z)
+pub more-begun : (f : List ℕ) → (length f ≡ 0 → ⊥) → (length f ≡ 1 → ⊥) → wellBegun f ≡ not (eqb (getD f 0 0) digit-0)
+more-begun [] h k = absurd (h refl)
+more-begun (b ∷ []) h k = absurd (k refl)
+more-begun (b ∷ c ∷ bs) h k = refl
 
-pub digit-first : (f : List ℕ) → (length f ≡ 0 → ⊥) → (getD f 0 0 ≡ digit-0 → ⊥) → withDigits 0 f ≡ readNumber f
+pub unbegun : (f : List ℕ) → wellBegun f ≡ false → readNumber f ≡ none
 unfolding readNumber
-digit-first [] h z = absurd (h refl)
-digit-first (b ∷ []) h z = same 0 (b ∷ []) (omega arith)
-digit-first (b ∷ c ∷ bs) h z = rw (ne-eqb b digit-0 z) (same 0 (b ∷ c ∷ bs) (omega arith))
+unbegun f h = rw h
+
+pub begun : (f : List ℕ) → wellBegun f ≡ true → withDigits 0 f ≡ readNumber f
+unfolding readNumber
+begun f h = rw h (same 0 f (omega arith))
 
 -- ---- the loop: v is the number so far, and the digit at i comes behind it
 

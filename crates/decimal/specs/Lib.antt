@@ -2,3 +2,4 @@ pub mod Text
 pub mod Decimal
 pub mod Reading
 pub mod Statements
+pub mod RoundTrip

@@ -7,7 +7,7 @@ use mathlib.Core.Bool.{Bool, true, false}
 use mathlib.Core.List.{List, [], _∷_, _++_}
 use lib.Dec.{leb}
 use lib.ListN.{length, set, take, drop, getD, length-append}
-use lib.Seq.{sets, sets-eq, set-out, length-sets, take-suc}
+use lib.Seq.{sets, sets-eq, set-out, length-sets, take-suc, slice, take-at, drop-at, length-take-le}
 use borrow.Author.Tests.{leb-true, leb-false}
 use Rattle.text.specs.Printed.{Printed, after}
 
@@ -52,6 +52,16 @@ past-end b {o} {at} h e = record { place = e; bytes = sym (set-out o at b h) }
 -- a text that fits leaves what stands before it and behind it
 pub fitted : (text : List ℕ) {o n : List ℕ} {at p : ℕ} → Printed text o at p n → at + length text ≤ length o → n ≡ take at o ++ text ++ drop (at + length text) o
 fitted text {o} {n} {at} x h = x .bytes ∙ sets-eq text o at h
+
+-- and stands between the two places
+pub in-place : (text : List ℕ) {o n : List ℕ} {at p : ℕ} → Printed text o at p n → at + length text ≤ length o → length o < 18446744073709551616 → slice at p n ≡ text
+in-place text {o} {n} {at} {p} x h small =
+    let e : p ≡ at + length text = omega (arith, x .place) in
+    let front : length (take at o) ≡ at = length-take-le at o (omega arith) in
+    let size : length (take at o ++ text) ≡ at + length text = omega (arith, length-append (take at o) text) in
+    rw (e, fitted text x h)
+    (ap (drop at) (take-at (take at o ++ text) (drop (at + length text) o) (at + length text) size)
+    ∙ drop-at (take at o) text at front)
 
 -- the first i + 1 bytes of a text
 pub more : (s : List ℕ) (i : ℕ) {o m n : List ℕ} {at p q : ℕ} → i < length s → length o < 18446744073709551616
