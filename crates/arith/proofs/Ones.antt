@@ -7,7 +7,7 @@ use mathlib.Core.Bool.{Bool, true, false}
 use lib.Count.{ones, ones-step, ones-cat}
 use lib.Dec.{eqb}
 use lib.Pow.{pow-pos}
-use borrow.Author.Tests.{eqb-true, eqb-false, eq-eqb}
+use borrow.Author.Tests.{eqb-true, eqb-false}
 use Rattle.arith.specs.Numbers.{max-u32, isPowerOfTwo}
 use Rattle.arith.proofs.Powers.{Pow2, powers-of-two}
 

@@ -6,7 +6,7 @@ use mathlib.Core.Bool.{Bool}
 use mathlib.Core.List.{List, [], _++_}
 use lib.ListN.{length, drop}
 use borrow.Author.Tests.{lt-ltb, le-ltb}
-use Rattle.arith.specs.Refusals.{Result, ok, refused, _>>=_, _>>_, refuse_when_, inRoom, short-list}
+use Rattle.arith.specs.Refusals.{ok, refused, _>>=_, _>>_, refuse_when_, inRoom, short-list}
 use Rattle.text.specs.Printed.{Printed}
 use Rattle.text.specs.Whole.{Whole, held, written, answered}
 use Rattle.text.specs.declared.Answer.{Answer}

@@ -1,9 +1,9 @@
 -- The definitions at some texts, computed.
 use Prim.Native.Nat.{ℕ}
 use mathlib.Core.Path.{_≡_, refl}
-use mathlib.Core.List.{List, [], _∷_}
+use mathlib.Core.List.{[], _∷_}
 use lib.Seq.{sets}
-use Rattle.arith.specs.Refusals.{Result, ok, refused, _>>=_, _>>_, refuse_when_, inRoom, short-list}
+use Rattle.arith.specs.Refusals.{ok, _>>=_, _>>_, refuse_when_, inRoom}
 use Rattle.text.specs.Printed.{after}
 use Rattle.text.specs.Whole.{over, held, written, answered}
 use Rattle.text.specs.declared.Answer.{Answer}
