@@ -1,3 +1,4 @@
+pub mod Opened
 pub mod Laws
 pub mod AllOrNothing
 pub mod Examples
