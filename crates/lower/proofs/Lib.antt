@@ -1,4 +1,5 @@
 pub mod Opened
+pub mod InCode
 pub mod Moves
 pub mod Onward
 pub mod Neighbours
