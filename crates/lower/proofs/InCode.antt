@@ -2,7 +2,7 @@
 use Prim.Native.Nat.{ℕ, _<_, _≤_}
 use mathlib.Core.Path.{_≡_, refl, sym, ap, _∙_}
 use mathlib.Core.Bool.{Bool, true, false, cond, _&&_, true≢false}
-use mathlib.Core.Option.{none, some}
+use mathlib.Core.Option.{Option, none, some}
 use native.Mathlib.Omega.{arith}
 use lib.Dec.{leb, ltb, eqb}
 use lib.IntN.{ℤ, pos, negsuc, _+ℤ_, _*ℤ_}
@@ -86,3 +86,40 @@ zero-bits (negsuc n) h e = absurd (omega (arith, h .sfits))
 pub other-bits : (z : ℤ) → (ofZ w32 z ≡ 0 → ⊥) → isZero z ≡ false
 other-bits (pos n) f = ne-eqb n 0 f
 other-bits (negsuc n) f = refl
+
+-- ---- what the code's answers say of the definitions
+
+pub now-is : (r : Result Pending) (q : Pending) → asMerged r ≡ Merged.Now q → r ≡ ok q
+unfolding asMerged
+now-is (ok p) q h = cc
+now-is (refused n) q h = let z : _≡_ {A = ℕ} 0 1 = cc in absurd (omega arith)
+
+-- a merged sum is refused by 23 alone
+pub over-is : (p : Pending) (z : ℤ) → asMerged (merged p z) ≡ Merged.Over → merged p z ≡ refused step-overflow
+unfolding asMerged merged added _>>_ refuse_unless_
+over-is p z h = by-zero (isZero z) h
+  where
+    no-over : {q : Pending} → Merged.Now q ≡ Merged.Over → ⊥
+    no-over e = let z : _≡_ {A = ℕ} 0 1 = cc in omega arith
+
+    by-test : (t : Bool) (x : ℤ) → asMerged ((refuse step-overflow unless t) >> ok (Waiting x)) ≡ Merged.Over → (refuse step-overflow unless t) >> ok (Waiting x) ≡ refused step-overflow
+    by-test true x g = absurd (no-over g)
+    by-test false x g = refl
+
+    by-pending : (p : Pending) → asMerged (added p z) ≡ Merged.Over → added p z ≡ refused step-overflow
+    by-pending Empty g = absurd (no-over g)
+    by-pending (Waiting y) g = by-test (isI32 (y +ℤ z)) (y +ℤ z) g
+
+    by-zero : (t : Bool) → asMerged (cond t (ok p) (added p z)) ≡ Merged.Over → cond t (ok p) (added p z) ≡ refused step-overflow
+    by-zero true g = absurd (no-over g)
+    by-zero false g = by-pending p g
+
+pub bytes-is : (o : Option ℤ) (z : ℤ) → asConstant o ≡ Constant.Bytes z → o ≡ some z
+unfolding asConstant
+bytes-is (some y) z h = cc
+bytes-is none z h = let x : _≡_ {A = ℕ} 0 1 = cc in absurd (omega arith)
+
+pub dynamic-is : (o : Option ℤ) → asConstant o ≡ Constant.Dynamic → o ≡ none
+unfolding asConstant
+dynamic-is (some y) h = let x : _≡_ {A = ℕ} 0 1 = cc in absurd (omega arith)
+dynamic-is none h = refl

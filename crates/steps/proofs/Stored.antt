@@ -1,0 +1,46 @@
+-- Steps stored behind others, and others in front of them, are all stored. Assumes nothing.
+use Prim.Native.Nat.{ℕ, suc, _+_, _<_, _≤_}
+use native.Mathlib.Omega.{arith}
+use native.Mathlib.Nat.{suc-add}
+use mathlib.Core.Path.{_≡_, refl, sym, ap, _∙_, subst}
+use mathlib.Core.List.{List, [], _∷_, _++_, map, map-append}
+use lib.ListN.{length, set, length-map}
+use lib.Seq.{sets, set-comm}
+use Rattle.text.proofs.Laws.{sets-append}
+use Rattle.lower.specs.declared.QPtrOp.{QPtrOp}
+use Rattle.steps.specs.Columns.{kindWord, bytesWord, lengthWord, markWord, indexWord, StoredAt}
+
+-- a word in front of what is stored
+set-before : (b l : List ℕ) (i j x : ℕ) → i < j → set (sets l j b) i x ≡ sets (set l i x) j b
+set-before [] l i j x h = refl
+set-before (v ∷ vs) l i j x h =
+    set-before vs (set l j v) i (suc j) x (omega arith) ∙ ap (λ (y : List ℕ). sets y (suc j) vs) (set-comm l j i v x (λ e. omega arith))
+
+sets-before : (a b l : List ℕ) (i j : ℕ) → i + length a ≤ j → sets (sets l j b) i a ≡ sets (sets l i a) j b
+sets-before [] b l i j h = refl
+sets-before (x ∷ xs) b l i j h =
+    ap (λ (y : List ℕ). sets y (suc i) xs) (set-before b l i j x (omega arith)) ∙ sets-before xs b (set l i x) (suc i) j (omega (arith, suc-add i (length xs)))
+
+-- one column
+column : (f : QPtrOp → ℕ) (a b : List QPtrOp) (n : ℕ) (l m r : List ℕ) → m ≡ sets l (n + length a) (map f b) → r ≡ sets m n (map f a) → r ≡ sets l n (map f (a ++ b))
+column f a b n l m r h g =
+    let long : length (map f a) ≡ length a = length-map a f in
+    g ∙ ap (λ (y : List ℕ). sets y n (map f a)) h
+    ∙ sets-before (map f a) (map f b) l n (n + length a) (omega arith)
+    ∙ ap (λ (k : ℕ). sets (sets l n (map f a)) (n + k) (map f b)) (sym long)
+    ∙ sym (sets-append l n (map f a) (map f b))
+    ∙ ap (sets l n) (sym (map-append f a b))
+
+pub in-front : (a b : List QPtrOp) (n : ℕ) (k₀ b₀ l₀ m₀ i₀ k₁ b₁ l₁ m₁ i₁ k₂ b₂ l₂ m₂ i₂ : List ℕ) → StoredAt (n + length a) b k₀ b₀ l₀ m₀ i₀ k₁ b₁ l₁ m₁ i₁
+    → StoredAt n a k₁ b₁ l₁ m₁ i₁ k₂ b₂ l₂ m₂ i₂ → StoredAt n (a ++ b) k₀ b₀ l₀ m₀ i₀ k₂ b₂ l₂ m₂ i₂
+in-front a b n k₀ b₀ l₀ m₀ i₀ k₁ b₁ l₁ m₁ i₁ k₂ b₂ l₂ m₂ i₂ h g = record {
+  kinds = column kindWord a b n k₀ k₁ k₂ (h .kinds) (g .kinds);
+  bytes = column bytesWord a b n b₀ b₁ b₂ (h .bytes) (g .bytes);
+  lengths = column lengthWord a b n l₀ l₁ l₂ (h .lengths) (g .lengths);
+  marks = column markWord a b n m₀ m₁ m₂ (h .marks) (g .marks);
+  indices = column indexWord a b n i₀ i₁ i₂ (h .indices) (g .indices);
+}
+
+-- no step changes nothing
+pub none-stored : (n : ℕ) (k b l m i : List ℕ) → StoredAt n [] k b l m i k b l m i
+none-stored n k b l m i = record { kinds = refl; bytes = refl; lengths = refl; marks = refl; indices = refl }
