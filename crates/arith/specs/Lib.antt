@@ -1,4 +1,5 @@
 pub mod Options
 pub mod Refusals
 pub mod Numbers
+pub mod Checked
 pub mod Statements

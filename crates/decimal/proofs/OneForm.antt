@@ -13,7 +13,7 @@ use Rattle.decimal.specs.Statements.{OneForm}
 use Rattle.arith.proofs.Results.{first-true, second-true, let-through}
 
 -- a bound that is large enough does not matter
-bound : (k j n : ℕ) (behind : List ℕ) → n < k → n < j → digitsBefore k n behind ≡ digitsBefore j n behind
+pub bound : (k j n : ℕ) (behind : List ℕ) → n < k → n < j → digitsBefore k n behind ≡ digitsBefore j n behind
 bound zero j n behind h i = absurd (omega arith)
 bound (suc k) zero n behind h i = absurd (omega arith)
 bound (suc k) (suc j) n behind h i = by-test (ltb n 10) refl (λ l. bound k j (n / 10) ((digit-0 + n % 10) ∷ behind) (omega arith) (omega arith))
