@@ -6,7 +6,8 @@ use mathlib.Core.List.{List}
 use native.Mathlib.Omega.{arith}
 use lib.ListN.{length}
 use Rattle.arith.specs.Refusals.{misread}
-use Rattle.shapes.specs.Words.{sameWords, memoryWords, handleWords, encode, memoryOf, answerOf, decode, ReadsBack}
+use Rattle.spirv.specs.Rows.{sameWords}
+use Rattle.shapes.specs.Words.{memoryWords, handleWords, encode, memoryOf, answerOf, decode, ReadsBack}
 use Rattle.shapes.specs.declared.Components.{Components}
 use Rattle.shapes.specs.declared.Components.the-variants.{Scalar, Elements, Fields}
 use Rattle.shapes.specs.declared.MemTypeLayout.{MemTypeLayout}
@@ -17,7 +18,7 @@ use Rattle.shapes.specs.declared.TypeLayout.{TypeLayout}
 use Rattle.shapes.specs.declared.TypeLayout.the-variants as layout
 use Rattle.shapes.specs.declared.Answer.{Answer}
 use Rattle.shapes.specs.declared.Answer.the-variants.{Laid, Refused}
-use Rattle.shapes.proofs.WordLaws.{same-itself, same-is, other-length}
+use Rattle.spirv.proofs.Words.{same-self, same-is, other-length}
 
 -- ---- ten words
 
@@ -79,7 +80,7 @@ answer-back (Laid (layout.Concrete m)) = concrete-back 0 (m .mem) (m .components
 
 pub decode-encode : (a : Answer) → decode (encode a) ≡ a
 unfolding decode
-decode-encode a = rw (answer-back a, same-itself (encode a))
+decode-encode a = rw (answer-back a, same-self (encode a))
 
 encoded-only : (ws : List ℕ) (l : TypeLayout) → decode ws ≡ Laid l → ws ≡ encode (Laid l)
 unfolding decode

@@ -14,13 +14,13 @@ use Rattle.shapes.specs.Words.{encode}
 use Rattle.shapes.specs.Rows.{rowAt, answerAt, flat}
 use Rattle.shapes.specs.declared.Answer.{Answer}
 use Rattle.shapes.specs.declared.Answer.the-variants.{Refused}
-use Rattle.shapes.proofs.Stores.{read-run}
+use Rattle.spirv.proofs.Rows.{part-stored}
 use Rattle.shapes.proofs.ReadsBack.{encode-length, decode-encode}
 
 -- a row that is written is read
 pub row-written : (table : List ℕ) (i : ℕ) (a : Answer) → 10 * i + 10 ≤ length table → rowAt (sets table (10 * i) (encode a)) i ≡ a
 unfolding rowAt
-row-written table i a h = rw (read-run (encode a) table (10 * i) 10 (encode-length a) h) (decode-encode a)
+row-written table i a h = rw (part-stored table (10 * i) 10 (encode a) (encode-length a) h) (decode-encode a)
 
 -- ---- a table of rows
 

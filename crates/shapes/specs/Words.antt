@@ -1,11 +1,12 @@
 -- The ten words that hold a layout or a refusal: the first says which of the two and which layout, so that each is read back as it was.
 use Prim.Native.Nat.{ℕ}
 use mathlib.Core.Path.{_≡_}
-use mathlib.Core.Bool.{Bool, true, false, cond, _&&_}
+use mathlib.Core.Bool.{cond}
 use mathlib.Core.List.{List, [], _∷_}
 use lib.Dec.{eqb}
 use lib.ListN.{getD}
 use Rattle.arith.specs.Refusals.{misread}
+use Rattle.spirv.specs.Rows.{sameWords}
 use Rattle.shapes.specs.declared.Components.{Components}
 use Rattle.shapes.specs.declared.Components.the-variants.{Scalar, Elements, Fields}
 use Rattle.shapes.specs.declared.MemTypeLayout.{MemTypeLayout}
@@ -15,13 +16,6 @@ use Rattle.shapes.specs.declared.TypeLayout.{TypeLayout}
 use Rattle.shapes.specs.declared.TypeLayout.the-variants as layout
 use Rattle.shapes.specs.declared.Answer.{Answer}
 use Rattle.shapes.specs.declared.Answer.the-variants.{Laid, Refused}
-
--- two lists of words are the same
-unfoldable pub sameWords : List ℕ → List ℕ → Bool
-sameWords [] [] = true
-sameWords [] (b ∷ bs) = false
-sameWords (a ∷ rest) [] = false
-sameWords (a ∷ rest) (b ∷ bs) = eqb a b && sameWords rest bs
 
 -- ---- to words
 

@@ -24,7 +24,7 @@ pub fn write_row(table: &mut [u32], i: u32, a: Answer)
     ensures { λ _. ⌜ now (table .exit) ≡ sets (now (table .entry)) (10 * i) (encode a) ⌝ }
 {
     let ws = words::words(a);
-    words::put_words(table, 10 * i as usize, &ws);
+    spirv::put_words(table, 10 * i as usize, &ws);
 }
 
 // The answer of type t, of the first n types; a number that is not below n is refused with 1.

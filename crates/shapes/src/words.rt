@@ -8,43 +8,7 @@ use crate::MemTypeLayout;
 use crate::TypeLayout;
 ghost use mathlib.Core.Path.{_≡_};
 ghost use lib.ListN.{length};
-ghost use lib.Seq.{sets};
-ghost use Rattle.shapes.specs.Words.{sameWords, memoryWords, handleWords, encode, componentsOf, memoryOf, handleOf, answerOf, decode};
-
-// ---- lists of words
-
-// The words from `at` on; what lies past the list's end is left out.
-pub fn put_words(list: &mut [u32], at: usize, words: &[u32])
-    ensures { λ _. ⌜ now (list .exit) ≡ sets (now (list .entry)) at (now (words .entry)) ⌝ }
-{
-    let mut i = 0;
-    while i < words.len() {
-        if list.len() <= at {
-            return;
-        }
-        if list.len() - at <= i {
-            return;
-        }
-        list[at + i] = words[i];
-        i += 1;
-    }
-}
-
-pub fn same_words(a: &[u32], b: &[u32]) -> bool
-    ensures { λ r. ⌜ r ≡ sameWords (now (a .entry)) (now (b .entry)) ⌝ }
-{
-    if a.len() != b.len() {
-        return false;
-    }
-    let mut i = 0;
-    while i < a.len() {
-        if a[i] != b[i] {
-            return false;
-        }
-        i += 1;
-    }
-    true
-}
+ghost use Rattle.shapes.specs.Words.{memoryWords, handleWords, encode, componentsOf, memoryOf, handleOf, answerOf, decode};
 
 // ---- to words
 
@@ -183,7 +147,7 @@ pub fn answer(ws: &[u32]) -> Answer
     }
     let a = answer_of(ws);
     let back = words(a);
-    if same_words(&back, ws) {
+    if spirv::same_words(&back, ws) {
         return a;
     }
     Answer::Refused(1)

@@ -4,7 +4,8 @@ use mathlib.Core.Bool.{true, false}
 use mathlib.Core.Path.{_≡_, sym}
 use borrow.Author.Needs.{needs}
 use Rattle.shapes.proofs.ReadsBack.{not-ten}
-use Rattle.shapes.specs.Words.{sameWords, encode, answerOf, decode}
+use Rattle.spirv.specs.Rows.{sameWords}
+use Rattle.shapes.specs.Words.{encode, answerOf, decode}
 use Rattle.shapes.proofs.words.answer.Statement.{statement}
 use Rattle.shapes.proofs.words.answer.Tie as tie
 
