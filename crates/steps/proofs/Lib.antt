@@ -1,3 +1,4 @@
 pub mod Opened
-pub mod Words
+pub mod Signs
+pub mod Back
 pub mod Stored

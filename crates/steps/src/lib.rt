@@ -1,21 +1,25 @@
-// Steps of a chain in five parallel lent lists of numbers, a list for each word of a step.
+// The words that hold a step, and the steps that five lists of words hold.
 use lower::QPtrOp;
 use spirv::Index;
 ghost use mathlib.Core.Path.{_≡_};
 ghost use mathlib.Core.List.{[], _∷_};
-ghost use lib.ListN.{set};
-ghost use Rattle.steps.specs.Columns.{wordOf, markOf, numberOf, kindWord, bytesWord, lengthWord, markWord, indexWord, StoredAt};
+ghost use lib.ListN.{getD, set};
+ghost use Rattle.steps.specs.Words.{wordOf, withIndex, encode, indexOf, decode};
+ghost use Rattle.steps.specs.Lists.{stepAt};
+ghost use Rattle.steps.specs.Stored.{StoredAt};
 
-// The word at place n; past the list's end it is stored nowhere.
-fn put(list: &mut [u32], n: usize, v: u32)
-    ensures { λ _. ⌜ now (list .exit) ≡ set (now (list .entry)) n v ⌝ }
-{
-    if n < list.len() {
-        list[n] = v;
-    }
+// Kind 1 is H, 2 B, 3 O, 4 D. The bytes are a constant offset's, as a word, or a stride. Mark 0 is a known index, 1 an unknown.
+pub struct StepWords {
+    pub kind: u32,
+    pub bytes: u32,
+    pub bound: u32,
+    pub mark: u32,
+    pub index: u32,
 }
 
-// The word that reads as z.
+// ---- to words
+
+// The word that reads as a signed number.
 fn word_of(z: i32) -> u32
     ensures { λ r. ⌜ r ≡ wordOf z ⌝ }
 {
@@ -26,96 +30,126 @@ fn word_of(z: i32) -> u32
     }
 }
 
-fn mark_of(i: Index) -> u32
-    ensures { λ r. ⌜ r ≡ markOf i ⌝ }
+fn with_index(kind: u32, bytes: u32, bound: u32, i: Index) -> StepWords
+    ensures { λ r. ⌜ r ≡ withIndex kind bytes bound i ⌝ }
 {
     match i {
-        Index::Known(_) => 0,
-        Index::Unknown(_) => 1,
+        Index::Known(w) => StepWords {
+            kind,
+            bytes,
+            bound,
+            mark: 0,
+            index: w,
+        },
+        Index::Unknown(v) => StepWords {
+            kind,
+            bytes,
+            bound,
+            mark: 1,
+            index: v,
+        },
     }
 }
 
-fn number_of(i: Index) -> u32
-    ensures { λ r. ⌜ r ≡ numberOf i ⌝ }
-{
-    match i {
-        Index::Known(w) => w,
-        Index::Unknown(v) => v,
-    }
-}
-
-fn kind_word(s: QPtrOp) -> u32
-    ensures { λ r. ⌜ r ≡ kindWord s ⌝ }
-{
-    match s {
-        QPtrOp::HandleArrayIndex { index: _ } => 1,
-        QPtrOp::BufferData => 2,
-        QPtrOp::Offset(_) => 3,
-        QPtrOp::DynOffset {
-            stride: _,
-            bound: _,
-            index: _,
-        } => 4,
-    }
-}
-
-fn bytes_word(s: QPtrOp) -> u32
-    ensures { λ r. ⌜ r ≡ bytesWord s ⌝ }
+// The words of a step.
+pub fn words_of(s: QPtrOp) -> StepWords
+    ensures { λ r. ⌜ r ≡ encode s ⌝ }
 {
     match s {
-        QPtrOp::HandleArrayIndex { index: _ } => 0,
-        QPtrOp::BufferData => 0,
-        QPtrOp::Offset(z) => word_of(z),
+        QPtrOp::HandleArrayIndex { index } => with_index(1, 0, 0, index),
+        QPtrOp::BufferData => StepWords {
+            kind: 2,
+            bytes: 0,
+            bound: 0,
+            mark: 0,
+            index: 0,
+        },
+        QPtrOp::Offset(z) => StepWords {
+            kind: 3,
+            bytes: word_of(z),
+            bound: 0,
+            mark: 0,
+            index: 0,
+        },
         QPtrOp::DynOffset {
             stride,
-            bound: _,
-            index: _,
-        } => stride,
-    }
-}
-
-fn length_word(s: QPtrOp) -> u32
-    ensures { λ r. ⌜ r ≡ lengthWord s ⌝ }
-{
-    match s {
-        QPtrOp::HandleArrayIndex { index: _ } => 0,
-        QPtrOp::BufferData => 0,
-        QPtrOp::Offset(_) => 0,
-        QPtrOp::DynOffset {
-            stride: _,
             bound,
-            index: _,
-        } => bound,
+            index,
+        } => with_index(4, stride, bound, index),
     }
 }
 
-fn mark_word(s: QPtrOp) -> u32
-    ensures { λ r. ⌜ r ≡ markWord s ⌝ }
+// ---- and back
+
+fn index_of(mark: u32, index: u32) -> Index
+    ensures { λ r. ⌜ r ≡ indexOf mark index ⌝ }
 {
-    match s {
-        QPtrOp::HandleArrayIndex { index } => mark_of(index),
-        QPtrOp::BufferData => 0,
-        QPtrOp::Offset(_) => 0,
-        QPtrOp::DynOffset {
-            stride: _,
-            bound: _,
-            index,
-        } => mark_of(index),
+    if mark == 0 {
+        return Index::Known(index);
     }
+    Index::Unknown(index)
 }
 
-fn index_word(s: QPtrOp) -> u32
-    ensures { λ r. ⌜ r ≡ indexWord s ⌝ }
+// The step that words hold; a kind that is none of the four reads as B.
+pub fn step_of(s: StepWords) -> QPtrOp
+    ensures { λ r. ⌜ r ≡ decode s ⌝ }
 {
-    match s {
-        QPtrOp::HandleArrayIndex { index } => number_of(index),
-        QPtrOp::BufferData => 0,
-        QPtrOp::Offset(_) => 0,
-        QPtrOp::DynOffset {
-            stride: _,
-            bound: _,
-            index,
-        } => number_of(index),
+    if s.kind == 1 {
+        return QPtrOp::HandleArrayIndex {
+            index: index_of(s.mark, s.index),
+        };
+    }
+    if s.kind == 3 {
+        return QPtrOp::Offset(arith::as_signed(s.bytes));
+    }
+    if s.kind == 4 {
+        return QPtrOp::DynOffset {
+            stride: s.bytes,
+            bound: s.bound,
+            index: index_of(s.mark, s.index),
+        };
+    }
+    QPtrOp::BufferData
+}
+
+// ---- in five lists
+
+// Word j of a list; past its end 0.
+fn word_at(list: &[u32], j: usize) -> u32
+    ensures { λ r. ⌜ r ≡ getD (now (list .entry)) j 0 ⌝ }
+{
+    if j < list.len() {
+        return list[j];
+    }
+    0
+}
+
+// Step j of those that five lists hold.
+pub fn step_at(
+    kinds: &[u32],
+    bytes: &[u32],
+    bounds: &[u32],
+    marks: &[u32],
+    indices: &[u32],
+    j: usize,
+) -> QPtrOp
+    ensures { λ r. ⌜ r ≡ stepAt (now (kinds .entry)) (now (bytes .entry)) (now (bounds .entry)) (now (marks .entry)) (now (indices .entry)) j ⌝ }
+{
+    step_of(StepWords {
+        kind: word_at(kinds, j),
+        bytes: word_at(bytes, j),
+        bound: word_at(bounds, j),
+        mark: word_at(marks, j),
+        index: word_at(indices, j),
+    })
+}
+
+// The word at place n; past the list's end it is stored nowhere.
+fn put(list: &mut [u32], n: usize, v: u32)
+    ensures { λ _. ⌜ now (list .exit) ≡ set (now (list .entry)) n v ⌝ }
+{
+    if n < list.len() {
+        list[n] = v;
     }
 }
 
@@ -125,15 +159,16 @@ pub fn store(
     n: usize,
     kinds: &mut [u32],
     bytes: &mut [u32],
-    lengths: &mut [u32],
+    bounds: &mut [u32],
     marks: &mut [u32],
     indices: &mut [u32],
 )
-    ensures { λ _. ⌜ StoredAt n (s ∷ []) (now (kinds .entry)) (now (bytes .entry)) (now (lengths .entry)) (now (marks .entry)) (now (indices .entry)) (now (kinds .exit)) (now (bytes .exit)) (now (lengths .exit)) (now (marks .exit)) (now (indices .exit)) ⌝ }
+    ensures { λ _. ⌜ StoredAt n (s ∷ []) (now (kinds .entry)) (now (bytes .entry)) (now (bounds .entry)) (now (marks .entry)) (now (indices .entry)) (now (kinds .exit)) (now (bytes .exit)) (now (bounds .exit)) (now (marks .exit)) (now (indices .exit)) ⌝ }
 {
-    put(kinds, n, kind_word(s));
-    put(bytes, n, bytes_word(s));
-    put(lengths, n, length_word(s));
-    put(marks, n, mark_word(s));
-    put(indices, n, index_word(s));
+    let w = words_of(s);
+    put(kinds, n, w.kind);
+    put(bytes, n, w.bytes);
+    put(bounds, n, w.bound);
+    put(marks, n, w.mark);
+    put(indices, n, w.index);
 }
