@@ -1,0 +1,69 @@
+-- Where one index of a chain leads, over tables of layouts: the code's decisions, by value.
+use Prim.Native.Nat.{ℕ}
+use mathlib.Core.Bool.{Bool, true, false, cond}
+use mathlib.Core.List.{List, [], _∷_}
+use mathlib.Core.Option.{Option, none, some}
+use lib.Dec.{eqb}
+use lib.IntN.{ℤ, pos}
+use Rattle.arith.specs.Refusals.{Result, ok, refused, _>>=_, no-parts, unknown-field}
+use Rattle.arith.specs.Numbers.{signed}
+use Rattle.spirv.specs.declared.Index.{Index}
+use Rattle.spirv.specs.declared.Index.the-variants.{Known, Unknown}
+use Rattle.shapes.specs.declared.Components.{Components}
+use Rattle.shapes.specs.declared.Components.the-variants.{Scalar, Elements, Fields}
+use Rattle.shapes.specs.declared.MemTypeLayout.{MemTypeLayout}
+use Rattle.shapes.specs.declared.Handle.the-variants.{Opaque, Buffer}
+use Rattle.shapes.specs.declared.TypeLayout.{TypeLayout}
+use Rattle.shapes.specs.declared.TypeLayout.the-variants as layout
+use Rattle.shapes.specs.declared.Answer.{Answer}
+use Rattle.shapes.specs.declared.Answer.the-variants.{Laid, Refused}
+use Rattle.shapes.specs.Rows.{answerAt}
+use Rattle.shapes.specs.Spans.{spansOf, answerBy}
+use Rattle.layout.specs.Arrays as def
+use Rattle.lower.specs.declared.QPtrOp.{QPtrOp}
+use Rattle.lower.specs.declared.QPtrOp.the-variants.{HandleArrayIndex, BufferData, Offset, DynOffset}
+use Rattle.lower.specs.declared.Pending.{Pending}
+use Rattle.lower.specs.Steps.{merged, boundOf, constantOffset}
+use Rattle.chain.specs.declared.Move.{Move}
+use Rattle.chain.specs.declared.Move.the-variants.{Reject, Onward, Emit, Inside, Enter}
+
+-- ---- the lent lists, read
+
+-- an index is two words: the word, and 0 where it is known
+abbrev pub indexOf : (word kind : ℕ) → Index
+indexOf word kind = cond (eqb kind 0) (Known word) (Unknown word)
+
+unfoldable pub indicesIn : List ℕ → List Index
+indicesIn [] = []
+indicesIn (w ∷ []) = []
+indicesIn (w ∷ k ∷ rest) = indexOf w k ∷ indicesIn rest
+
+-- the answers of a table of n types, as the definitions have them
+unfoldable pub answersIn : (layouts offsets members : List ℕ) (n : ℕ) → ℕ → def.Answer
+answersIn layouts offsets members n t = answerBy (spansOf offsets members) (answerAt layouts n t)
+
+-- ---- one index
+
+-- on to a layout, once what waits is known
+abbrev pub onward : TypeLayout → Result Pending → Move
+onward u (ok q) = Onward u q
+onward u (refused e) = Reject e
+
+abbrev pub byConstant : TypeLayout → QPtrOp → Pending → Option ℤ → Move
+byConstant u d p (some z) = onward u (merged p z)
+byConstant u d p none = Emit u d
+
+abbrev pub toElement : (stride len : ℕ) → Index → Pending → Answer → Move
+toElement stride len i p (Laid u) = byConstant u (DynOffset stride (boundOf len) i) p (constantOffset stride len i)
+toElement stride len i p (Refused e) = Reject e
+
+abbrev pub inMemory : (answers : ℕ → Answer) → Components → Index → Pending → Move
+inMemory answers Scalar i p = Reject no-parts
+inMemory answers (Elements stride elem len) i p = toElement stride len i p (answers elem)
+inMemory answers (Fields start count) i p = Inside start count
+
+unfoldable pub moveOf : (answers : ℕ → Answer) → TypeLayout → Index → Pending → Move
+moveOf answers (layout.Handle Opaque) i p = Reject no-parts
+moveOf answers (layout.Handle (Buffer m)) i p = Enter m
+moveOf answers (layout.HandleArray h n) i p = Emit (layout.Handle h) (HandleArrayIndex i)
+moveOf answers (layout.Concrete m) i p = inMemory answers (m .components) i p
