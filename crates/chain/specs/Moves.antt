@@ -3,10 +3,10 @@ use Prim.Native.Nat.{ℕ}
 use mathlib.Core.Bool.{Bool, true, false, cond}
 use mathlib.Core.List.{List, [], _∷_}
 use mathlib.Core.Option.{Option, none, some}
-use lib.Dec.{eqb}
+use lib.Dec.{eqb, leb}
 use lib.IntN.{ℤ, pos}
-use Rattle.arith.specs.Refusals.{Result, ok, refused, _>>=_, no-parts, unknown-field}
-use Rattle.arith.specs.Numbers.{signed}
+use Rattle.arith.specs.Refusals.{Result, ok, refused, no-parts, unknown-field, far-field}
+use Rattle.arith.specs.Numbers.{max-i32, signed}
 use Rattle.spirv.specs.declared.Index.{Index}
 use Rattle.spirv.specs.declared.Index.the-variants.{Known, Unknown}
 use Rattle.shapes.specs.declared.Components.{Components}
@@ -21,9 +21,11 @@ use Rattle.shapes.specs.Rows.{answerAt}
 use Rattle.shapes.specs.Spans.{spansOf, answerBy}
 use Rattle.layout.specs.Arrays as def
 use Rattle.lower.specs.declared.QPtrOp.{QPtrOp}
-use Rattle.lower.specs.declared.QPtrOp.the-variants.{HandleArrayIndex, BufferData, Offset, DynOffset}
+use Rattle.lower.specs.declared.QPtrOp.the-variants.{HandleArrayIndex, DynOffset}
 use Rattle.lower.specs.declared.Pending.{Pending}
-use Rattle.lower.specs.Steps.{merged, boundOf, constantOffset}
+use Rattle.lower.specs.Steps.{merged, Field, fieldOf, boundOf, constantOffset}
+use Rattle.chain.specs.declared.Hop.{Hop}
+use Rattle.chain.specs.declared.Hop.the-variants.{Refuse, Go}
 use Rattle.chain.specs.declared.Move.{Move}
 use Rattle.chain.specs.declared.Move.the-variants.{Reject, Onward, Emit, Inside, Enter}
 
@@ -67,3 +69,25 @@ moveOf answers (layout.Handle Opaque) i p = Reject no-parts
 moveOf answers (layout.Handle (Buffer m)) i p = Enter m
 moveOf answers (layout.HandleArray h n) i p = Emit (layout.Handle h) (HandleArrayIndex i)
 moveOf answers (layout.Concrete m) i p = inMemory answers (m .components) i p
+
+-- ---- into a field of a span
+
+-- once the offset waits and the field's layout is known
+abbrev pub hopTo : Answer → Pending → Hop
+hopTo (Laid u) q = Go u q
+hopTo (Refused e) q = Refuse e
+
+abbrev pub hopBy : Answer → Result Pending → Hop
+hopBy a (ok q) = hopTo a q
+hopBy a (refused e) = Refuse e
+
+unfoldable pub fieldHop : (answers : ℕ → Answer) → (offset type : ℕ) → Pending → Hop
+fieldHop answers offset type p = cond (leb offset max-i32) (hopBy (answers type) (merged p (pos offset))) (Refuse far-field)
+
+abbrev pub byField : (answers : ℕ → Answer) → Pending → Result Field → Hop
+byField answers p (ok f) = fieldHop answers (f .offset) (f .type) p
+byField answers p (refused e) = Refuse e
+
+unfoldable pub hopOf : (answers : ℕ → Answer) → (offsets types : List ℕ) → Index → Pending → Hop
+hopOf answers offsets types (Unknown v) p = Refuse unknown-field
+hopOf answers offsets types (Known w) p = byField answers p (fieldOf offsets types (signed w))

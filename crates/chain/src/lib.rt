@@ -11,13 +11,11 @@ use shapes::TypeLayout;
 use spirv::Index;
 ghost use mathlib.Core.Path.{_≡_};
 ghost use Prim.Native.Nat.{_≤_};
-ghost use mathlib.Core.List.{[], _∷_};
-ghost use mathlib.Core.Option.{some};
+ghost use mathlib.Core.List.{[]};
 ghost use Rattle.arith.specs.Refusals.{ok};
 ghost use Rattle.shapes.specs.Rows.{answerAt};
 ghost use Rattle.lower.specs.Steps.{flush, merged};
-ghost use Rattle.steps.specs.Stored.{StoredAt};
-ghost use Rattle.chain.specs.Moves.{indexOf, onward, byConstant, toElement, inMemory, moveOf};
+ghost use Rattle.chain.specs.Moves.{indexOf, onward, toElement, inMemory, moveOf, fieldHop, hopOf};
 ghost use Rattle.chain.specs.Written.{Wrote, Prefixed, inRoomBehind, afterOf};
 
 // Where an index leads: refused; on to a layout, this offset waiting; on to it behind a step; to a field of a span; into a buffer.
@@ -27,6 +25,12 @@ pub enum Move {
     Emit(TypeLayout, QPtrOp),
     Inside { start: u32, count: u32 },
     Enter(MemTypeLayout),
+}
+
+// Where an index leads inside a struct: refused, or on to a layout, this offset waiting.
+pub enum Hop {
+    Refuse(u32),
+    Go(TypeLayout, Pending),
 }
 
 // What a walk ends in: the number of steps, or the refusal.
@@ -112,6 +116,46 @@ pub fn next_move(layouts: &[u32], n: u32, l: TypeLayout, i: Index, p: Pending) -
         TypeLayout::Concrete(m) => {
             let c = m.components;
             in_memory(layouts, n, c, i, p)
+        }
+    }
+}
+
+// ---- a field
+
+// On to a field of a type, by its offset.
+fn hop_to(layouts: &[u32], n: u32, offset: u32, ty: u32, p: Pending) -> Hop
+    ensures { λ r. ⌜ r ≡ fieldHop (answerAt (now (layouts .entry)) n) offset ty p ⌝ }
+{
+    if 0x7fff_ffff < offset {
+        return Hop::Refuse(22);
+    }
+    match lower::merge(p, offset as i32) {
+        Merged::Over => Hop::Refuse(23),
+        Merged::Now(q) => match shapes::rows::answer_at(layouts, n, ty) {
+            Answer::Refused(e) => Hop::Refuse(e),
+            Answer::Laid(u) => Hop::Go(u, q),
+        },
+    }
+}
+
+// Where an index leads inside a struct whose fields are these.
+fn next_field(layouts: &[u32], n: u32, offsets: &[u32], types: &[u32], i: Index, p: Pending) -> Hop
+    ensures { λ r. ⌜ r ≡ hopOf (answerAt (now (layouts .entry)) n) (now (offsets .entry)) (now (types .entry)) i p ⌝ }
+{
+    match i {
+        Index::Unknown(_) => Hop::Refuse(20),
+        Index::Known(w) => {
+            if 0x7fff_ffff < w {
+                return Hop::Refuse(21);
+            }
+            let at = w as usize;
+            if offsets.len() <= at {
+                return Hop::Refuse(21);
+            }
+            if types.len() <= at {
+                return Hop::Refuse(21);
+            }
+            hop_to(layouts, n, offsets[at], types[at], p)
         }
     }
 }

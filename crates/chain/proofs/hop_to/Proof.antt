@@ -1,0 +1,68 @@
+-- `chain::hop_to` meets its contract: 22, then the sum, then the field's layout. Assumes nothing.
+use mathlib.Core.Path.{_≡_, sym, _∙_}
+use native.Mathlib.Omega.{arith}
+use mir.Syntax.{w32}
+use mir.ValLaws.{toZ-pos}
+use borrow.Author.Tests.{le-leb, lt-leb}
+use Rattle.lower.proofs.InCode.{now-is, over-is}
+use Rattle.chain.specs.Moves.{fieldHop}
+use borrow.Author.Needs.{needs}
+use Rattle.chain.proofs.hop_to.Statement.{statement}
+use Rattle.chain.proofs.hop_to.Tie as tie
+
+returns : tie.Need-returns
+unfolding fieldHop
+returns c = rw (lt-leb _ _ (c .if1 .taken))
+
+cast-merge : tie.Need-cast-merge
+cast-merge c = search needs
+
+merge-requires : tie.Need-merge-requires
+merge-requires c κs = search needs
+
+enum-told : tie.Need-enum-told
+enum-told c = search needs
+
+enum-known-q : tie.Need-enum-known-q
+enum-known-q c = search needs
+
+answer-at-requires : tie.Need-answer-at-requires
+answer-at-requires c κs = search needs
+
+enum-known-e : tie.Need-enum-known-e
+enum-known-e c = search needs
+
+enum-known-u : tie.Need-enum-known-u
+enum-known-u c = search needs
+
+returns-2 : tie.Need-returns-2
+unfolding fieldHop
+returns-2 c = rw (le-leb _ _ (c .before .before .before .if1 .left), over-is _ _ (sym (simp (toZ-pos w32 (c .before .before .before .before .before .args .offset) (omega (arith, c .before .before .before .if1 .left))) at (c .before .before .merge .ensures)) ∙ c .enum-told .given .1))
+
+returns-3 : tie.Need-returns-3
+unfolding fieldHop
+returns-3 c =
+    let m = now-is _ _ (sym (simp (toZ-pos w32 (c .before .before .before .before .before .before .before .before .before .before .args .offset) (omega (arith, c .before .before .before .before .before .before .before .before .if1 .left))) at (c .before .before .before .before .before .before .before .merge .ensures)) ∙ c .before .before .before .before .before .q .given .1) in
+    rw (le-leb _ _ (c .before .before .before .before .before .before .before .before .if1 .left), m, ← c .before .before .before .answer-at .ensures, c .before .e .given .1)
+
+returns-4 : tie.Need-returns-4
+unfolding fieldHop
+returns-4 c =
+    let m = now-is _ _ (sym (simp (toZ-pos w32 (c .before .before .before .before .before .before .before .before .before .before .args .offset) (omega (arith, c .before .before .before .before .before .before .before .before .if1 .left))) at (c .before .before .before .before .before .before .before .merge .ensures)) ∙ c .before .before .before .before .before .q .given .1) in
+    rw (le-leb _ _ (c .before .before .before .before .before .before .before .before .if1 .left), m, ← c .before .before .before .answer-at .ensures, c .before .u .given .1)
+
+pub hop-to-spec : {M : Type 1} → statement M
+hop-to-spec =
+    tie.close
+    (tie.spec
+    returns
+    cast-merge
+    merge-requires
+    enum-told
+    enum-known-q
+    answer-at-requires
+    enum-known-e
+    enum-known-u
+    returns-2
+    returns-3
+    returns-4)
