@@ -1,2 +1,4 @@
+pub mod Opened
 pub mod Signs
 pub mod Back
+pub mod Examples
