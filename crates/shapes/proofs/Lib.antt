@@ -1,1 +1,4 @@
 pub mod Opened
+pub mod ReadsBack
+pub mod RowLaws
+pub mod Held

@@ -1,3 +1,5 @@
 pub mod Opened
 pub mod Filled
 pub mod Examples
+pub mod Words
+pub mod Rows
