@@ -7,6 +7,11 @@ use lib.IntN.{pos, negsuc}
 use Rattle.decimal.specs.Text.{bytes}
 use Rattle.spirv.specs.declared.Index.the-variants.{Known, Unknown}
 use Rattle.lower.specs.declared.QPtrOp.the-variants.{HandleArrayIndex, BufferData, Offset, DynOffset}
+use Rattle.shapes.specs.declared.Components.the-variants.{Fields}
+use Rattle.shapes.specs.declared.MemTypeLayout.{MemTypeLayout}
+use Rattle.shapes.specs.declared.Handle.the-variants as handle
+use Rattle.shapes.specs.declared.TypeLayout.the-variants as layout
+use Rattle.lines.specs.Layouts.{layoutText}
 use Rattle.lines.specs.Behind.{behind}
 use Rattle.lines.specs.Texts.{equalText, componentsText, chainText, lengthText, variableText, refusalText}
 use Rattle.lines.proofs.Opened.{opened}
@@ -50,3 +55,23 @@ equal = refl
 unequal : equalText false ≡ bytes "n\n"
 unfolding opened
 unequal = refl
+
+-- ---- layouts; the fields are two of the list's offsets
+
+abbrev twelve : MemTypeLayout
+twelve = record {
+  mem = record { «fixed_base» = record { align = 4; «legacy_align» = 16; size = 12 }; «dyn_unit_stride» = 0 };
+  components = Fields 1 2;
+}
+
+memory : layoutText (9 ∷ 0 ∷ 8 ∷ 7 ∷ []) (layout.Concrete twelve) ≡ bytes "t,c,0,12,4,16,0,0,8\n"
+unfolding opened
+memory = refl
+
+buffers : layoutText (9 ∷ 0 ∷ 8 ∷ 7 ∷ []) (layout.HandleArray (handle.Buffer twelve) 3) ≡ bytes "t,ab,3,12,4,16,0,0,8\n"
+unfolding opened
+buffers = refl
+
+opaque : layoutText [] (layout.Handle handle.Opaque) ≡ bytes "t,o,0,0,0,0,0\n"
+unfolding opened
+opaque = refl
