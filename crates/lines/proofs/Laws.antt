@@ -8,8 +8,9 @@ use lib.ListN.{length, take, getD}
 use lib.Seq.{take-suc}
 use Rattle.text.specs.Printed.{Printed}
 use Rattle.text.proofs.Laws.{then, kept}
+use Rattle.decimal.specs.Text.{bytes}
 use Rattle.decimal.specs.Decimal.{decimal}
-use Rattle.answers.specs.Lines.{AnswerLine, stepFields, stepsFields}
+use Rattle.answers.specs.Lines.{AnswerLine, opaqueFields, stepFields, stepsFields}
 use Rattle.answers.specs.Output.{printed}
 use Rattle.lower.specs.declared.QPtrOp.{QPtrOp}
 use Rattle.steps.specs.Lists.{stepAt, stepsIn}
@@ -52,6 +53,11 @@ module _ {o m n : List ℕ} {at p q : ℕ} (small : length o < 18446744073709551
       rw (line-is f fs, ← append-assoc f (behind fs) (code "\n" ∷ []))
       (then (f ++ behind fs) (code "\n" ∷ []) small (then f (behind fs) small x (y (rw (kept f x) small))) z)
 
+-- an opaque's numbers
+pub zeros : {o m : List ℕ} {at p : ℕ} → Printed (bytes ",0,0,0,0") o at p m → Printed (behind opaqueFields) o at p m
+unfolding behind decimal
+zeros x = x
+
 map-append : (l k : List ℕ) → map decimal (l ++ k) ≡ map decimal l ++ map decimal k
 map-append [] k = refl
 map-append (n ∷ l) k = ap (λ (t : AnswerLine). decimal n ∷ t) (map-append l k)
@@ -71,17 +77,17 @@ steps-append [] b = refl
 steps-append (s ∷ a) b =
     ap (λ (l : AnswerLine). stepFields s ++ l) (steps-append a b) ∙ sym (append-assoc (stepFields s) (stepsFields a) (stepsFields b))
 
-module _ (kinds bytes bounds marks indices : List ℕ) where
-  pub no-steps : behind (stepsFields (stepsIn kinds bytes bounds marks indices 0)) ≡ []
+module _ (kinds sizes bounds marks indices : List ℕ) where
+  pub no-steps : behind (stepsFields (stepsIn kinds sizes bounds marks indices 0)) ≡ []
   unfolding behind stepsIn
   no-steps = refl
 
   -- the first j + 1
   pub one-step-more : (j : ℕ) {o m n : List ℕ} {at p q : ℕ} → length o < 18446744073709551616
-      → Printed (behind (stepsFields (stepsIn kinds bytes bounds marks indices j))) o at p m
-      → Printed (behind (stepFields (stepAt kinds bytes bounds marks indices j))) m p q n
-      → Printed (behind (stepsFields (stepsIn kinds bytes bounds marks indices (j + 1)))) o at q n
+      → Printed (behind (stepsFields (stepsIn kinds sizes bounds marks indices j))) o at p m
+      → Printed (behind (stepFields (stepAt kinds sizes bounds marks indices j))) m p q n
+      → Printed (behind (stepsFields (stepsIn kinds sizes bounds marks indices (j + 1)))) o at q n
   unfolding stepsIn
   one-step-more j small x y =
-      rw (add-one, steps-append (stepsIn kinds bytes bounds marks indices j) (stepAt kinds bytes bounds marks indices j ∷ []), append-nil (stepFields (stepAt kinds bytes bounds marks indices j)))
+      rw (add-one, steps-append (stepsIn kinds sizes bounds marks indices j) (stepAt kinds sizes bounds marks indices j ∷ []), append-nil (stepFields (stepAt kinds sizes bounds marks indices j)))
       (fields small _ _ x y)

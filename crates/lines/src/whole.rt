@@ -1,11 +1,38 @@
 // Answer lines, all of a line or nothing: it is measured first, on no room, and then written where it fits. Where it does not, 24.
+use crate::layouts;
 use shapes::MemLayout;
+use shapes::TypeLayout;
 use text::Answer;
 ghost use mathlib.Core.Option.{none, some};
 ghost use Rattle.arith.specs.Refusals.{ok};
 ghost use Rattle.text.specs.Whole.{Whole};
 ghost use Rattle.steps.specs.Lists.{stepsIn};
-ghost use Rattle.lines.specs.Texts.{componentsText, chainText, lengthText, variableText, refusalText};
+ghost use Rattle.lines.specs.Layouts.{layoutText};
+ghost use Rattle.lines.specs.Texts.{equalText, componentsText, chainText, lengthText, variableText, refusalText};
+
+// `t,form,len,size,align,legacy,dyn`, then field offsets, or the stride.
+pub fn put_layout_line(out: &mut [u8], l: TypeLayout, offsets: &[u32]) -> Answer
+    ensures { λ r. ⌜ Whole (ok (layoutText (now (offsets .entry)) l)) (now (out .entry)) r (now (out .exit)) ⌝ }
+{
+    let size = layouts::layout_line(&mut out[..0], 0, l, offsets);
+    if out.len() < size {
+        return Answer::Refused(24);
+    }
+    layouts::layout_line(out, 0, l, offsets);
+    Answer::Bytes(size)
+}
+
+// `y` or `n`.
+pub fn put_equal_line(out: &mut [u8], same: bool) -> Answer
+    ensures { λ r. ⌜ Whole (ok (equalText same)) (now (out .entry)) r (now (out .exit)) ⌝ }
+{
+    let size = crate::equal_line(&mut out[..0], 0, same);
+    if out.len() < size {
+        return Answer::Refused(24);
+    }
+    crate::equal_line(out, 0, same);
+    Answer::Bytes(size)
+}
 
 // `q`, then components.
 pub fn put_components_line(out: &mut [u8], found: &[u32]) -> Answer
