@@ -1,3 +1,4 @@
+pub mod Opened
 pub mod Writes
 pub mod Fields
 pub mod Lowers
