@@ -2,3 +2,4 @@ pub mod Opened
 pub mod Writes
 pub mod Fields
 pub mod Lowers
+pub mod Chains

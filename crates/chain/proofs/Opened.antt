@@ -10,5 +10,5 @@ use Rattle.chain.specs.Moves as moves
 use Rattle.chain.specs.Written as written
 
 unfoldable pub opened : Unit {0}
-unfolding of-arith.opened of-spirv.opened of-shapes.opened of-sheet.opened of-layout.opened of-lower.opened of-steps.opened moves.indicesIn moves.answersIn moves.moveOf moves.fieldHop moves.hopOf written.inRoomBehind
+unfolding of-arith.opened of-spirv.opened of-shapes.opened of-sheet.opened of-layout.opened of-lower.opened of-steps.opened moves.indicesIn moves.moveOf moves.fieldHop moves.hopOf written.inRoomBehind written.chainFrom written.fieldFrom written.chainOf
 opened = tt

@@ -17,9 +17,6 @@ use Rattle.shapes.specs.declared.TypeLayout.{TypeLayout}
 use Rattle.shapes.specs.declared.TypeLayout.the-variants as layout
 use Rattle.shapes.specs.declared.Answer.{Answer}
 use Rattle.shapes.specs.declared.Answer.the-variants.{Laid, Refused}
-use Rattle.shapes.specs.Rows.{answerAt}
-use Rattle.shapes.specs.Spans.{spansOf, answerBy}
-use Rattle.layout.specs.Arrays as def
 use Rattle.lower.specs.declared.QPtrOp.{QPtrOp}
 use Rattle.lower.specs.declared.QPtrOp.the-variants.{HandleArrayIndex, DynOffset}
 use Rattle.lower.specs.declared.Pending.{Pending}
@@ -39,10 +36,6 @@ unfoldable pub indicesIn : List ℕ → List Index
 indicesIn [] = []
 indicesIn (w ∷ []) = []
 indicesIn (w ∷ k ∷ rest) = indexOf w k ∷ indicesIn rest
-
--- the answers of a table of n types, as the definitions have them
-unfoldable pub answersIn : (layouts offsets members : List ℕ) (n : ℕ) → ℕ → def.Answer
-answersIn layouts offsets members n t = answerBy (spansOf offsets members) (answerAt layouts n t)
 
 -- ---- one index
 

@@ -12,11 +12,12 @@ use spirv::Index;
 ghost use mathlib.Core.Path.{_≡_};
 ghost use Prim.Native.Nat.{_≤_};
 ghost use mathlib.Core.List.{[]};
+ghost use lib.ListN.{length};
 ghost use Rattle.arith.specs.Refusals.{ok};
 ghost use Rattle.shapes.specs.Rows.{answerAt};
 ghost use Rattle.lower.specs.Steps.{flush, merged};
-ghost use Rattle.chain.specs.Moves.{indexOf, onward, toElement, inMemory, moveOf, fieldHop, hopOf};
-ghost use Rattle.chain.specs.Written.{Wrote, Prefixed, inRoomBehind, afterOf};
+ghost use Rattle.chain.specs.Moves.{indexOf, indicesIn, onward, toElement, inMemory, moveOf, fieldHop, hopOf};
+ghost use Rattle.chain.specs.Written.{Wrote, Prefixed, inRoomBehind, afterOf, Few, weight, chainFrom, fieldFrom};
 
 // Where an index leads: refused; on to a layout, this offset waiting; on to it behind a step; to a field of a span; into a buffer.
 pub enum Move {
@@ -232,5 +233,164 @@ fn finish(
             steps::store(QPtrOp::Offset(z), n, kinds, bytes, bounds, marks, indices);
             Walk::Steps(n + 1)
         }
+    }
+}
+
+// ---- the walk
+
+// The array part: the steps of the indices left, from a layout on. It hands a struct to the struct part.
+fn array_part(
+    layouts: &[u32],
+    types: u32,
+    offsets: &[u32],
+    members: &[u32],
+    chain: &[u32],
+    l: TypeLayout,
+    p: Pending,
+    n: usize,
+    room: usize,
+    kinds: &mut [u32],
+    bytes: &mut [u32],
+    bounds: &mut [u32],
+    marks: &mut [u32],
+    indices: &mut [u32],
+) -> Walk
+    requires { ⌜ Few n (length (now chain)) (weight l) ⌝ }
+    ensures { λ r. ⌜ Wrote n (inRoomBehind room n (chainFrom (now (layouts .entry)) (now (offsets .entry)) (now (members .entry)) types l p (indicesIn (now (chain .entry))))) r (now (kinds .entry)) (now (bytes .entry)) (now (bounds .entry)) (now (marks .entry)) (now (indices .entry)) (now (kinds .exit)) (now (bytes .exit)) (now (bounds .exit)) (now (marks .exit)) (now (indices .exit)) ⌝ }
+{
+    if chain.len() < 2 {
+        return finish(p, n, room, kinds, bytes, bounds, marks, indices);
+    }
+    let i = index_of(chain[0], chain[1]);
+    match next_move(layouts, types, l, i, p) {
+        Move::Reject(e) => Walk::Refused(e),
+        Move::Onward(u, q) => array_part(
+            layouts,
+            types,
+            offsets,
+            members,
+            &chain[2..],
+            u,
+            q,
+            n,
+            room,
+            kinds,
+            bytes,
+            bounds,
+            marks,
+            indices,
+        ),
+        Move::Emit(u, s) => {
+            let next = after(p, n) + 1;
+            let r = array_part(
+                layouts,
+                types,
+                offsets,
+                members,
+                &chain[2..],
+                u,
+                Pending::Empty,
+                next,
+                room,
+                kinds,
+                bytes,
+                bounds,
+                marks,
+                indices,
+            );
+            prefix(r, p, s, n, kinds, bytes, bounds, marks, indices)
+        }
+        Move::Inside { start, count } => struct_part(
+            layouts,
+            types,
+            offsets,
+            members,
+            chain,
+            start,
+            count,
+            p,
+            n,
+            room,
+            kinds,
+            bytes,
+            bounds,
+            marks,
+            indices,
+        ),
+        Move::Enter(m) => {
+            let next = after(p, n) + 1;
+            let r = array_part(
+                layouts,
+                types,
+                offsets,
+                members,
+                chain,
+                TypeLayout::Concrete(m),
+                Pending::Empty,
+                next,
+                room,
+                kinds,
+                bytes,
+                bounds,
+                marks,
+                indices,
+            );
+            prefix(
+                r,
+                p,
+                QPtrOp::BufferData,
+                n,
+                kinds,
+                bytes,
+                bounds,
+                marks,
+                indices,
+            )
+        }
+    }
+}
+
+// The struct part: a field, and then the array part on the indices left.
+fn struct_part(
+    layouts: &[u32],
+    types: u32,
+    offsets: &[u32],
+    members: &[u32],
+    chain: &[u32],
+    start: u32,
+    count: u32,
+    p: Pending,
+    n: usize,
+    room: usize,
+    kinds: &mut [u32],
+    bytes: &mut [u32],
+    bounds: &mut [u32],
+    marks: &mut [u32],
+    indices: &mut [u32],
+) -> Walk
+    requires { ⌜ (2 ≤ length (now chain)) × Few n (length (now chain)) 0 ⌝ }
+    ensures { λ r. ⌜ Wrote n (inRoomBehind room n (fieldFrom (now (layouts .entry)) (now (offsets .entry)) (now (members .entry)) types start count p (now (chain .entry)))) r (now (kinds .entry)) (now (bytes .entry)) (now (bounds .entry)) (now (marks .entry)) (now (indices .entry)) (now (kinds .exit)) (now (bytes .exit)) (now (bounds .exit)) (now (marks .exit)) (now (indices .exit)) ⌝ }
+{
+    let i = index_of(chain[0], chain[1]);
+    let os = shapes::rows::span(offsets, start, count);
+    let ts = shapes::rows::span(members, start, count);
+    match next_field(layouts, types, os, ts, i, p) {
+        Hop::Refuse(e) => Walk::Refused(e),
+        Hop::Go(u, q) => array_part(
+            layouts,
+            types,
+            offsets,
+            members,
+            &chain[2..],
+            u,
+            q,
+            n,
+            room,
+            kinds,
+            bytes,
+            bounds,
+            marks,
+            indices,
+        ),
     }
 }

@@ -6,7 +6,8 @@ use Rattle.shapes.proofs.Opened as of-shapes
 use Rattle.sheet.specs.Fields as fields
 use Rattle.sheet.specs.Grammar as grammar
 use Rattle.sheet.specs.Sheet as sheet
+use Rattle.sheet.specs.Tables as tables
 
 unfoldable pub opened : Unit {0}
-unfolding of-arith.opened of-decimal.opened of-spirv.opened of-shapes.opened fields.readFlag fields.readType fields.readLength fields.readStride fields.readOp fields.readIndex fields.readDecoration grammar.grammar grammar.readLine sheet.decorateLast sheet.firstLine sheet.nextLine sheet.readLines sheet.readPieces sheet.readSheet sheet.declIn sheet.pointeeIn
+unfolding of-arith.opened of-decimal.opened of-spirv.opened of-shapes.opened fields.readFlag fields.readType fields.readLength fields.readStride fields.readOp fields.readIndex fields.readDecoration grammar.grammar grammar.readLine sheet.decorateLast sheet.firstLine sheet.nextLine sheet.readLines sheet.readPieces sheet.readSheet sheet.declIn sheet.pointeeIn tables.roomFor tables.held
 opened = tt
