@@ -7,7 +7,8 @@ use mathlib.Core.Option.{Option, none, some}
 use lib.IntN.{ℤ}
 use lib.ListN.{length, getD, drop, take, length-drop}
 use lib.Seq.{take-all}
-use Rattle.arith.specs.Refusals.{Result, ok, refused}
+use borrow.Author.Tests.{lt-ltb, le-ltb}
+use Rattle.arith.specs.Refusals.{Result, ok, refused, _>>_, refuse_when_, oversize}
 use Rattle.spirv.specs.declared.Index.{Index}
 use Rattle.shapes.specs.declared.Components.{Components}
 use Rattle.shapes.specs.declared.Components.the-variants.{Scalar, Elements, Fields}
@@ -29,7 +30,7 @@ use Rattle.chain.specs.declared.Hop.the-variants.{Refuse, Go}
 use Rattle.chain.specs.declared.Move.{Move}
 use Rattle.chain.specs.declared.Move.the-variants.{Reject, Onward, Emit, Inside, Enter}
 use Rattle.chain.specs.Moves.{indexOf, indicesIn, onward, byConstant, toElement, inMemory, moveOf, hopOf}
-use Rattle.chain.specs.Written.{afterOf, weight, chainFrom, hopThen, fieldFrom}
+use Rattle.chain.specs.Written.{afterOf, weight, inRoomBehind, chainFrom, hopThen, fieldFrom, chainOf}
 use Rattle.chain.proofs.Writes.{before}
 use Rattle.chain.proofs.Lowers.{followHop, follow, more, no-more}
 
@@ -123,3 +124,14 @@ unfolding moveOf
 entered layouts types (layout.Handle h) i p m e = refl
 entered layouts types (layout.HandleArray h n) i p m e = refl
 entered layouts types (layout.Concrete k) i p m e = by-components 0 m (answerAt layouts types) (k .components) i p e
+
+-- ---- at most 255 indices
+
+module _ (room : ℕ) (layouts offsets members : List ℕ) (types : ℕ) (l : TypeLayout) (chain : List ℕ) where
+  pub too-many : 510 < length chain → chainOf room layouts offsets members types l chain ≡ refused oversize
+  unfolding chainOf _>>_ refuse_when_
+  too-many h = rw (lt-ltb 510 (length chain) h)
+
+  pub few-enough : length chain ≤ 510 → chainOf room layouts offsets members types l chain ≡ inRoomBehind room 0 (chainFrom layouts offsets members types l Empty (indicesIn chain))
+  unfolding chainOf _>>_ refuse_when_
+  few-enough h = rw (le-ltb 510 (length chain) h)

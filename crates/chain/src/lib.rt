@@ -10,14 +10,14 @@ use shapes::MemTypeLayout;
 use shapes::TypeLayout;
 use spirv::Index;
 ghost use mathlib.Core.Path.{_≡_};
-ghost use Prim.Native.Nat.{_≤_};
+ghost use Prim.Native.Nat.{_≤_, min};
 ghost use mathlib.Core.List.{[]};
 ghost use lib.ListN.{length};
 ghost use Rattle.arith.specs.Refusals.{ok};
 ghost use Rattle.shapes.specs.Rows.{answerAt};
 ghost use Rattle.lower.specs.Steps.{flush, merged};
 ghost use Rattle.chain.specs.Moves.{indexOf, indicesIn, onward, toElement, inMemory, moveOf, fieldHop, hopOf};
-ghost use Rattle.chain.specs.Written.{Wrote, Prefixed, inRoomBehind, afterOf, Few, weight, chainFrom, fieldFrom};
+ghost use Rattle.chain.specs.Written.{Wrote, Prefixed, inRoomBehind, afterOf, Few, weight, chainFrom, fieldFrom, chainOf, roomOf};
 
 // Where an index leads: refused; on to a layout, this offset waiting; on to it behind a step; to a field of a span; into a buffer.
 pub enum Move {
@@ -393,4 +393,49 @@ fn struct_part(
             indices,
         ),
     }
+}
+
+fn smaller(a: usize, b: usize) -> usize
+    ensures { λ r. ⌜ r ≡ min a b ⌝ }
+{
+    if b < a { b } else { a }
+}
+
+// A chain of at most 255 indices, each two words, from a layout on: its steps in the five lists, or the refusal and the lists as they were.
+pub fn lower_from(
+    layouts: &[u32],
+    types: u32,
+    offsets: &[u32],
+    members: &[u32],
+    chain: &[u32],
+    l: TypeLayout,
+    kinds: &mut [u32],
+    bytes: &mut [u32],
+    bounds: &mut [u32],
+    marks: &mut [u32],
+    indices: &mut [u32],
+) -> Walk
+    ensures { λ r. ⌜ Wrote 0 (chainOf (roomOf (now (kinds .entry)) (now (bytes .entry)) (now (bounds .entry)) (now (marks .entry)) (now (indices .entry))) (now (layouts .entry)) (now (offsets .entry)) (now (members .entry)) types l (now (chain .entry))) r (now (kinds .entry)) (now (bytes .entry)) (now (bounds .entry)) (now (marks .entry)) (now (indices .entry)) (now (kinds .exit)) (now (bytes .exit)) (now (bounds .exit)) (now (marks .exit)) (now (indices .exit)) ⌝ }
+{
+    if 510 < chain.len() {
+        return Walk::Refused(2);
+    }
+    let most = smaller(bounds.len(), smaller(marks.len(), indices.len()));
+    let room = smaller(kinds.len(), smaller(bytes.len(), most));
+    array_part(
+        layouts,
+        types,
+        offsets,
+        members,
+        chain,
+        l,
+        Pending::Empty,
+        0,
+        room,
+        kinds,
+        bytes,
+        bounds,
+        marks,
+        indices,
+    )
 }
