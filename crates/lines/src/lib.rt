@@ -391,7 +391,7 @@ pub fn read_line(line: &[u8], above: u32) -> SheetLine
 // ---- members and indices, written
 
 // The word w at first + n; past the list's end nothing is written.
-fn put_at(list: &mut [u32], first: usize, n: usize, w: u32)
+pub fn put_at(list: &mut [u32], first: usize, n: usize, w: u32)
     ensures { λ _. ⌜ now (list .exit) ≡ set (now (list .entry)) (first + n) w ⌝ }
 {
     if list.len() <= first {

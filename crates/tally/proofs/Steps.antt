@@ -5,9 +5,12 @@ use mathlib.Core.Path.{_≡_, refl, ap, _∙_, subst}
 use mathlib.Core.Bool.{Bool, true, false, cond}
 use mathlib.Core.List.{List, [], _∷_, _++_}
 use mathlib.Core.Option.{Option, none, some}
-use lib.Dec.{leb, ltb}
+use borrow.Author.Tests.{leb-true}
+use lib.Dec.{leb, ltb, eqb}
 use lib.ListN.{length, length-append}
 use Rattle.arith.specs.Refusals.{Result, ok, refused, _>>=_, _>>_, refuse_unless_, misread, oversize, bad-setting}
+use Rattle.spirv.specs.declared.Decoration.{Decoration}
+use Rattle.spirv.specs.declared.Decoration.the-variants.{RowMajor, Offset}
 use Rattle.spirv.specs.declared.MemberDecoration.{MemberDecoration}
 use Rattle.spirv.specs.declared.SpvType.{SpvType}
 use Rattle.spirv.specs.declared.DeclRow.{DeclRow}
@@ -31,7 +34,7 @@ use Rattle.tally.specs.declared.Place.the-variants.{Closed, Open, After}
 use Rattle.tally.specs.declared.Tally.{Tally}
 use Rattle.tally.specs.declared.Step.{Step}
 use Rattle.tally.specs.declared.Step.the-variants.{Next, Refused}
-use Rattle.tally.specs.Counts.{rowBy, placed, openedBy, declaredBy, decoratedBy, askedBy, judged, setBy, judgedFirst, startTally}
+use Rattle.tally.specs.Counts.{rowWith, rowTaking, rowBy, readIn, isOpen, placed, openedBy, declaredBy, decoratedBy, askedBy, judged, setBy, judgedFirst, startTally}
 use Rattle.tally.proofs.Decorated.{decorated, decorate-last, rises-last, row-decorated}
 
 -- ---- a sheet and its counts
@@ -74,16 +77,16 @@ pub record Redone (row : DeclRow) (d : MemberDecoration) (ts us : List Decl) : T
   pub held : row ≡ declRow (memberCount above) last
 
 abbrev pub RedoneAt : Place → MemberDecoration → List Decl → List Decl → Type 0
-RedoneAt Closed d ts us = Unit {0}
+RedoneAt Closed d ts us = ⊥
 RedoneAt (Open row) d ts us = Redone row d ts us
 RedoneAt (After row c) d ts us = Redone row d ts us
 
 abbrev pub Grows : (above : ℕ) → List ℕ → Place → SheetLine → List Decl → List Decl → Type 0
-Grows above line p (says.Setting g) ts us = Unit {0}
+Grows above line p (says.Setting g) ts us = ⊥
 Grows above line p (says.Declared ty n at) ts us = Added above line ty n at ts us
 Grows above line p (says.Decorated d) ts us = RedoneAt p d ts us
 Grows above line p (says.Asked a at) ts us = us ≡ ts
-Grows above line p says.Misread ts us = Unit {0}
+Grows above line p says.Misread ts us = ⊥
 
 -- the line is read, and the counts u are those of the sheet with it
 pub record Went (s : Sheet) (previous : Line) (t : Tally) (line : List ℕ) (l : SheetLine) (o : Option Line) (u : Tally) : Type 0 where
@@ -318,6 +321,80 @@ module _ {s : Sheet} {previous : Line} {t : Tally} (m : Matches s previous t) wh
     line-stops (says.Decorated d) w e = rw w (decoration-stops d (t .place) (m .place) e)
     line-stops (says.Asked a at) w e = ask-stops w e
     line-stops says.Misread w e = rw w (ap refused (number-is e))
+
+-- ---- the bounds that the counts keep
+
+row-reads : (row : DeclRow) (d : MemberDecoration) → rowBy row d .read ≤ row .read + 1
+unfolding rowBy
+row-reads row d = go (eqb (row .refusal) 0) (d .decoration)
+  where
+    inner : (a b : Bool) → cond a (rowWith row 13 (row .read)) (cond b (rowWith row 14 (row .read)) (rowWith row 0 (row .read + 1))) .read ≤ row .read + 1
+    inner true b = omega arith
+    inner false true = omega arith
+    inner false false = omega arith
+
+    go : (a : Bool) (c : Decoration) → cond a (rowTaking row (d .member) c) row .read ≤ row .read + 1
+    go true RowMajor = omega arith
+    go true (Offset value) = inner (ltb (d .member) (row .read)) (ltb (row .read) (d .member))
+    go false c = omega arith
+
+-- a line adds one offset at most
+pub reads-more : (t : Tally) (l : SheetLine) {u : Tally} → judged t l ≡ Next u → readIn (u .place) ≤ readIn (t .place) + 1
+unfolding judged declaredBy decoratedBy askedBy openedBy
+reads-more t (says.Setting g) e = absurd (never-next e)
+reads-more t (says.Declared ty n at) {u} e = go (ltb (t .types) max-types) (leb (t .members + n) max-members) (isStruct ty) e
+  where
+    place : (c : Bool) → readIn (cond c (Open (structRow ty (t .members) n 0 0)) Closed) ≤ 0
+    place true = omega arith
+    place false = omega arith
+
+    go : (a b c : Bool) → cond a (cond b (Next record { setting = t .setting; types = t .types + 1; members = t .members + n; place = cond c (Open (structRow ty (t .members) n 0 0)) Closed }) (Refused oversize)) (Refused oversize) ≡ Next u
+        → readIn (u .place) ≤ readIn (t .place) + 1
+    go true true c e = rw (← next-is e) (omega (arith, place c))
+    go true false c e = absurd (never-next e)
+    go false b c e = absurd (never-next e)
+reads-more t (says.Decorated d) {u} e = go (t .place) e
+  where
+    row-after : (row : DeclRow) → Next (placed t (After (rowBy row d) d)) ≡ Next u → readIn (u .place) ≤ row .read + 1
+    row-after row e = rw (← next-is e) (row-reads row d)
+
+    go : (p : Place) → decoratedBy t p d ≡ Next u → readIn (u .place) ≤ readIn p + 1
+    go Closed e = absurd (never-next e)
+    go (Open row) e = row-after row e
+    go (After row c) e = inner (before c d) e
+      where
+        inner : (b : Bool) → cond b (Next (placed t (After (rowBy row d) d))) (Refused misread) ≡ Next u → readIn (u .place) ≤ row .read + 1
+        inner true e = row-after row e
+        inner false e = absurd (never-next e)
+reads-more t (says.Asked a at) {u} e = go (leb (countOf a) max-indices) e
+  where
+    go : (b : Bool) → cond b (Next (placed t Closed)) (Refused oversize) ≡ Next u → readIn (u .place) ≤ readIn (t .place) + 1
+    go true e = rw (← next-is e) (omega arith)
+    go false e = absurd (never-next e)
+reads-more t says.Misread e = absurd (never-next e)
+
+-- a type that is not refused has few members
+pub few-declared : (t : Tally) (ty : SpvType) (n at : ℕ) {u : Tally} → judged t (says.Declared ty n at) ≡ Next u → n ≤ max-members
+unfolding judged declaredBy
+few-declared t ty n at {u} e = go (ltb (t .types) max-types) (leb (t .members + n) max-members) refl e
+  where
+    go : (a b : Bool) → leb (t .members + n) max-members ≡ b
+        → cond a (cond b (Next record { setting = t .setting; types = t .types + 1; members = t .members + n; place = openedBy ty (t .members) n }) (Refused oversize)) (Refused oversize) ≡ Next u → n ≤ max-members
+    go true true f e = omega (arith, leb-true (t .members + n) max-members f)
+    go true false f e = absurd (never-next e)
+    go false b f e = absurd (never-next e)
+
+-- a struct above is a type
+pub some-type : {s : Sheet} {previous : Line} {t : Tally} → Matches s previous t → isOpen (t .place) ≡ true → 1 ≤ t .types
+some-type {s} {previous} {t} m e = go (t .place) (m .place) e
+  where
+    has : {row : DeclRow} {follows : MemberDecoration → Bool} → OpenAt (s .types) previous row follows → 1 ≤ t .types
+    has a = omega (arith, m .types, ap length (a .split), length-append (a .above) (a .last ∷ []))
+
+    go : (p : Place) → Placed (s .types) previous p → isOpen p ≡ true → 1 ≤ t .types
+    go Closed a e = absurd (let z : _≡_ {A = ℕ} 0 1 = cc in omega arith)
+    go (Open row) a e = has a
+    go (After row c) a e = has a
 
 -- ---- line 1
 

@@ -71,7 +71,7 @@ fn comes_before(a: MemberDecoration, b: MemberDecoration) -> bool
 }
 
 // A struct's row with a D line more: the first refusal stays.
-fn reduce(row: DeclRow, d: MemberDecoration) -> DeclRow
+pub fn reduce(row: DeclRow, d: MemberDecoration) -> DeclRow
     requires { ⌜ row .read ≤ 65536 ⌝ }
     ensures { λ r. ⌜ r ≡ rowBy row d ⌝ }
 {
