@@ -1,4 +1,3 @@
-pub mod Opened
 pub mod Writes
 pub mod Fields
 pub mod Lowers

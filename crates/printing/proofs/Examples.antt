@@ -3,7 +3,7 @@ use mathlib.Core.Path.{_≡_, refl}
 use mathlib.Core.Bool.{true, false}
 use mathlib.Core.List.{[], _∷_}
 use mathlib.Core.Option.{none, some}
-use lib.IntN.{pos, negsuc}
+use lib.IntN.{negsuc}
 use Rattle.decimal.specs.Text.{bytes}
 use Rattle.spirv.specs.declared.Index.the-variants.{Known, Unknown}
 use Rattle.lower.specs.declared.QPtrOp.the-variants.{HandleArrayIndex, BufferData, Offset, DynOffset}

@@ -3,9 +3,10 @@ use Prim.Native.Nat.{ℕ}
 use mathlib.Core.Path.{_≡_}
 use mathlib.Core.List.{List, []}
 use Rattle.shapes.specs.Shapes as def
-use Rattle.shapes.specs.Spans.{spansOf, partsBy, memoryBy, layoutBy}
+use Rattle.shapes.specs.Spans.{spansOf, partsBy, memoryBy, handleBy, layoutBy}
 use Rattle.shapes.specs.declared.Components.{Components}
 use Rattle.shapes.specs.declared.MemTypeLayout.{MemTypeLayout}
+use Rattle.shapes.specs.declared.Handle.{Handle}
 use Rattle.shapes.specs.declared.TypeLayout.{TypeLayout}
 use Rattle.answers.specs.Lines.{AnswerLine, layoutLine}
 use Rattle.answers.specs.Output.{printed}
@@ -16,6 +17,9 @@ partsIn offsets p = partsBy (spansOf offsets []) p
 
 abbrev pub memoryIn : (offsets : List ℕ) → MemTypeLayout → def.MemTypeLayout
 memoryIn offsets m = memoryBy (spansOf offsets []) m
+
+abbrev pub handleIn : (offsets : List ℕ) → Handle → def.HandleLayout
+handleIn offsets h = handleBy (spansOf offsets []) h
 
 abbrev pub lineIn : (offsets : List ℕ) → TypeLayout → AnswerLine
 lineIn offsets l = layoutLine (layoutBy (spansOf offsets []) l)

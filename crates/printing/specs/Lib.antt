@@ -1,3 +1,4 @@
 pub mod Behind
 pub mod Texts
 pub mod Layouts
+pub mod Contents

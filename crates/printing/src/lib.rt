@@ -1,4 +1,5 @@
 // Answer lines of the program `lay`, printed into a lent slice at a place, as the crate `text` prints: what lies past the slice's end is left out.
+pub mod equality;
 pub mod fields;
 pub mod layouts;
 pub mod whole;

@@ -1,7 +1,7 @@
 -- Words of steps and the steps that words hold, computed.
 use mathlib.Core.Path.{_≡_, refl}
 use mathlib.Core.List.{[], _∷_}
-use lib.IntN.{pos, negsuc}
+use lib.IntN.{negsuc}
 use Rattle.spirv.specs.declared.Index.the-variants.{Known, Unknown}
 use Rattle.lower.specs.declared.QPtrOp.the-variants.{HandleArrayIndex, BufferData, Offset, DynOffset}
 use Rattle.steps.specs.Words.{encode}
