@@ -18,7 +18,7 @@ use Rattle.sheet.proofs.Tables.{front, types-length, members-length, offsets-le
 use Rattle.reading.specs.declared.End.{End}
 use Rattle.reading.specs.declared.End.the-variants as end
 use Rattle.reading.specs.declared.SheetAnswer.the-variants as answer
-use Rattle.reading.specs.Puts.{Untouched}
+use Rattle.puts.specs.Puts.{Untouched}
 use Rattle.reading.specs.Reads.{endOf, Passed, fitsBy, into, ReadsInto}
 
 -- ---- the definition, by the length of the input
