@@ -28,9 +28,9 @@ use Rattle.tally.specs.Counts.{readIn, Small, judged, judgedFirst, startTally}
 use Rattle.tally.proofs.Steps.{Matches, Went, next-line, line-stops, reads-more, few-declared, some-type, start-matches, first-went, first-stops}
 use Rattle.reading.specs.declared.End.{End}
 use Rattle.reading.specs.declared.End.the-variants as end
-use Rattle.reading.specs.Puts.{Untouched, declaredCount, Putable, Put, Wrote}
-use Rattle.reading.specs.Reads.{emptySheet, endOf, finishedBy, Filled, Passed}
-use Rattle.reading.proofs.Grown.{grown}
+use Rattle.puts.specs.Puts.{Untouched, Filled, declaredCount, Putable, Put, Wrote}
+use Rattle.reading.specs.Reads.{emptySheet, endOf, finishedBy, Passed}
+use Rattle.puts.proofs.Grown.{grown}
 
 -- ---- a line of several
 

@@ -14,13 +14,12 @@ use Rattle.decimal.specs.Text.{split}
 use Rattle.shapes.specs.declared.LayoutConfig.{LayoutConfig}
 use Rattle.sheet.specs.Sheet.{Sheet, memberCount, readPieces, readSheet}
 use Rattle.sheet.specs.Tables.{over, settingWords, typesWords, membersWords, offsetsWords, roomFor, held}
-use Rattle.sheet.proofs.Tables.{types-length, members-length, offsets-length}
+use Rattle.sheet.proofs.Tables.{front, types-length, members-length, offsets-length}
 use Rattle.reading.specs.declared.End.{End}
 use Rattle.reading.specs.declared.End.the-variants as end
 use Rattle.reading.specs.declared.SheetAnswer.the-variants as answer
-use Rattle.reading.specs.Puts.{Untouched}
+use Rattle.puts.specs.Puts.{Untouched}
 use Rattle.reading.specs.Reads.{endOf, Passed, fitsBy, into, ReadsInto}
-use Rattle.reading.proofs.Stores.{front}
 
 -- ---- the definition, by the length of the input
 

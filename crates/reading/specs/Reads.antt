@@ -5,9 +5,7 @@ use mathlib.Core.Bool.{Bool, true, false, cond, _&&_}
 use mathlib.Core.List.{List, []}
 use lib.Dec.{leb, ltb}
 use lib.ListN.{length}
-use lib.Seq.{sets}
 use Rattle.arith.specs.Refusals.{Result, ok, refused, misread}
-use Rattle.spirv.specs.Decl.{Decl}
 use Rattle.shapes.specs.declared.LayoutConfig.{LayoutConfig}
 use Rattle.sheet.specs.Sheet.{Sheet, memberCount, readSheet}
 use Rattle.sheet.specs.Tables.{over, settingWords, typesWords, membersWords, offsetsWords, held}
@@ -16,7 +14,7 @@ use Rattle.reading.specs.declared.End.{End}
 use Rattle.reading.specs.declared.End.the-variants as end
 use Rattle.reading.specs.declared.SheetAnswer.{SheetAnswer}
 use Rattle.reading.specs.declared.SheetAnswer.the-variants as answer
-use Rattle.reading.specs.Puts.{Untouched}
+use Rattle.puts.specs.Puts.{Untouched, Filled}
 
 -- ---- a pass over the lines
 
@@ -32,12 +30,6 @@ endOf (refused n) = end.Refused n
 -- behind the last LF: so many bytes are left
 unfoldable pub finishedBy : ℕ → Tally → End
 finishedBy rest t = cond (ltb 0 rest) (end.Refused misread) (end.Done (t .setting) (t .types) (t .members))
-
--- the words of these types, stored at the start of the lists
-pub record Filled (ds : List Decl) (ty me gi ty' me' gi' : List ℕ) : Type 0 where
-  pub types : ty' ≡ sets ty 0 (typesWords 0 ds)
-  pub members : me' ≡ sets me 0 (membersWords ds)
-  pub given : gi' ≡ sets gi 0 (offsetsWords ds)
 
 -- a pass that does not write leaves the lists; one that writes leaves the tables of a sheet that is read
 pub record Passed (write : Bool) (o : Result Sheet) (r : End) (ty me gi ty' me' gi' : List ℕ) : Type 0 where

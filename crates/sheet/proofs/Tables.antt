@@ -5,14 +5,18 @@ use mathlib.Core.Path.{_≡_, refl, sym, ap, _∙_}
 use mathlib.Core.List.{List, [], _∷_, _++_, append-assoc, append-nil}
 use mathlib.Core.Option.{Option, none, some}
 use lib.ListN.{length, take, drop, getElem?, replicate, length-append, length-take, length-replicate}
-use lib.Seq.{length-take-le, drop-append-add, take-append-seam, take-at}
+use lib.Seq.{sets, sets-eq, length-take-le, drop-append-add, take-append-seam, take-at}
 use Rattle.arith.proofs.Results.{no-some, some-is}
 use Rattle.spirv.specs.Decl.{Decl}
 use Rattle.spirv.specs.Rows.{encodeRow}
 use Rattle.spirv.specs.Reduced.{declRow, givenWords, reduced}
 use Rattle.spirv.proofs.Rows.{row-length}
 use Rattle.sheet.specs.Sheet.{memberCount}
-use Rattle.sheet.specs.Tables.{typesWords, membersWords, offsetsWords, spanStart, Spans}
+use Rattle.sheet.specs.Tables.{over, typesWords, membersWords, offsetsWords, spanStart, Spans}
+
+-- stores at the front
+pub front : (l w : List ℕ) → length w ≤ length l → sets l 0 w ≡ over w l
+front l w h = let all : 0 + length w ≡ length w = omega arith in sets-eq w l 0 (omega arith) ∙ ap (λ (k : ℕ). w ++ drop k l) all
 
 -- ---- lengths
 

@@ -15,8 +15,8 @@ use Rattle.spirv.specs.declared.DeclRow.{DeclRow}
 use Rattle.spirv.specs.Decl.{Decl, isStruct}
 use Rattle.spirv.specs.Reduced.{Reduction, takenIn, reducedBy, reduced, declRow, givenWords}
 use Rattle.tally.proofs.Decorated.{decorated, reduced-last}
-use Rattle.reading.specs.Puts.{offsetIn, offsetWords}
-use Rattle.reading.proofs.Stores.{last-in}
+use Rattle.puts.specs.Puts.{offsetIn, offsetWords}
+use Rattle.puts.proofs.Stores.{last-in}
 
 -- so many words: offsets, then zeros
 abbrev cut : ℕ → List ℕ → List ℕ

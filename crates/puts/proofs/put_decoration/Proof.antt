@@ -1,7 +1,7 @@
--- `reading::put_decoration` meets its contract.
+-- `puts::put_decoration` meets its contract.
 use borrow.Author.Needs.{needs}
-use Rattle.reading.proofs.put_decoration.Statement.{statement}
-use Rattle.reading.proofs.put_decoration.Tie as tie
+use Rattle.puts.proofs.put_decoration.Statement.{statement}
+use Rattle.puts.proofs.put_decoration.Tie as tie
 
 reduce-requires : tie.Need-reduce-requires
 reduce-requires c κs = search needs

@@ -1,7 +1,7 @@
--- `reading::put_type` meets its contract.
+-- `puts::put_type` meets its contract.
 use borrow.Author.Needs.{needs}
-use Rattle.reading.proofs.put_type.Statement.{statement}
-use Rattle.reading.proofs.put_type.Tie as tie
+use Rattle.puts.proofs.put_type.Statement.{statement}
+use Rattle.puts.proofs.put_type.Tie as tie
 
 cast-fresh-row : tie.Need-cast-fresh-row
 cast-fresh-row c = search needs

@@ -4,14 +4,9 @@ use native.Mathlib.Omega.{arith}
 use native.Mathlib.Numerals.{add-one}
 use mathlib.Core.Path.{_≡_, refl, sym, ap, _∙_}
 use mathlib.Core.List.{List, [], _∷_, _++_}
-use lib.ListN.{length, set, drop, replicate, length-replicate}
-use lib.Seq.{sets, sets-eq, set-set, set-comm}
+use lib.ListN.{length, set, replicate, length-replicate}
+use lib.Seq.{sets, set-set, set-comm}
 use Rattle.spirv.proofs.Words.{sets-append}
-use Rattle.sheet.specs.Tables.{over}
-
--- stores at the front
-pub front : (l w : List ℕ) → length w ≤ length l → sets l 0 w ≡ over w l
-front l w h = let all : 0 + length w ≡ length w = omega arith in sets-eq w l 0 (omega arith) ∙ ap (λ (k : ℕ). w ++ drop k l) all
 
 -- a store before others
 before-others : (vs l : List ℕ) (i j v : ℕ) → i < j → set (sets l j vs) i v ≡ sets (set l i v) j vs

@@ -12,9 +12,10 @@ use Rattle.spirv.specs.declared.Decoration.the-variants.{RowMajor, Offset}
 use Rattle.spirv.specs.declared.MemberDecoration.{MemberDecoration}
 use Rattle.spirv.specs.declared.SpvType.{SpvType}
 use Rattle.spirv.specs.declared.DeclRow.{DeclRow}
-use Rattle.spirv.specs.Decl.{isStruct}
+use Rattle.spirv.specs.Decl.{Decl, isStruct}
 use Rattle.spirv.specs.Rows.{encodeRow, structRow, plainRow}
 use Rattle.sheet.specs.Fields.{readType, readAll}
+use Rattle.sheet.specs.Tables.{typesWords, membersWords, offsetsWords}
 use Rattle.fields.specs.Pieces.{behind}
 use Rattle.lines.specs.declared.SheetLine.{SheetLine}
 use Rattle.lines.specs.declared.SheetLine.the-variants as says
@@ -89,3 +90,11 @@ pub record Putable (t : Tally) (l : SheetLine) : Type 0 where
 pub record Wrote (write : Bool) (t : Tally) (line : List ℕ) (l : SheetLine) (ty me gi ty' me' gi' : List ℕ) : Type 0 where
   pub yes : write ≡ true → Put t line l ty me gi ty' me' gi'
   pub no : write ≡ false → Untouched ty me gi ty' me' gi'
+
+-- ---- the tables
+
+-- the words of these types, stored at the start of the lists
+pub record Filled (ds : List Decl) (ty me gi ty' me' gi' : List ℕ) : Type 0 where
+  pub types : ty' ≡ sets ty 0 (typesWords 0 ds)
+  pub members : me' ≡ sets me 0 (membersWords ds)
+  pub given : gi' ≡ sets gi 0 (offsetsWords ds)

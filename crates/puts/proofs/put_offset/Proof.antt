@@ -1,9 +1,9 @@
--- `reading::put_offset` meets its contract.
+-- `puts::put_offset` meets its contract.
 use borrow.Author.Tests.{eq-eqb, ne-eqb, lt-ltb, le-ltb}
-use Rattle.reading.specs.Puts.{offsetWords}
+use Rattle.puts.specs.Puts.{offsetWords}
 use borrow.Author.Needs.{needs}
-use Rattle.reading.proofs.put_offset.Statement.{statement}
-use Rattle.reading.proofs.put_offset.Tie as tie
+use Rattle.puts.proofs.put_offset.Statement.{statement}
+use Rattle.puts.proofs.put_offset.Tie as tie
 
 returns : tie.Need-returns
 unfolding offsetWords

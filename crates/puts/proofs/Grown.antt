@@ -26,10 +26,10 @@ use Rattle.tally.specs.declared.Tally.{Tally}
 use Rattle.tally.specs.Counts.{rowBy}
 use Rattle.tally.proofs.Decorated.{decorated, row-decorated}
 use Rattle.tally.proofs.Steps.{Matches, Added, Redone, RedoneAt, Grows}
-use Rattle.reading.specs.Puts.{Untouched, freshRow, Declaring, Redecorating, RedecoratingAll, PutDecoration, Put}
-use Rattle.reading.specs.Reads.{Filled}
-use Rattle.reading.proofs.Stores.{words-more, last-again}
-use Rattle.reading.proofs.Offsets.{offsets-redone}
+use Rattle.puts.specs.Puts.{Untouched, freshRow, Declaring, Redecorating, RedecoratingAll, PutDecoration, Put}
+use Rattle.puts.specs.Puts.{Filled}
+use Rattle.puts.proofs.Stores.{words-more, last-again}
+use Rattle.puts.proofs.Offsets.{offsets-redone}
 
 -- ---- a type more
 

@@ -1,13 +1,13 @@
--- `reading::put_zeros` meets its contract. The loop's invariant: i zeros are stored.
+-- `puts::put_zeros` meets its contract. The loop's invariant: i zeros are stored.
 use borrow.Author.Needs.{needs}
 use Prim.Native.Nat.{_-_, _≤_}
 use native.Mathlib.Omega.{arith}
 use mathlib.Core.Path.{_≡_, refl, ap, _∙_}
 use lib.ListN.{length, replicate, length-set}
 use lib.Seq.{sets}
-use Rattle.reading.proofs.Stores.{zero-more}
-use Rattle.reading.proofs.put_zeros.Statement.{statement}
-use Rattle.reading.proofs.put_zeros.Tie as tie
+use Rattle.puts.proofs.Stores.{zero-more}
+use Rattle.puts.proofs.put_zeros.Statement.{statement}
+use Rattle.puts.proofs.put_zeros.Tie as tie
 
 abbrev Inv-loop : tie.InvT-loop
 Inv-loop list₀ first n i₀ list i = (i ≤ n) × (list ≡ sets list₀ first (replicate i 0)) × (length list ≡ length list₀)

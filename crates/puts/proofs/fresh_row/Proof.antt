@@ -1,9 +1,9 @@
--- `reading::fresh_row` meets its contract.
-use Rattle.reading.specs.Puts.{freshRow}
+-- `puts::fresh_row` meets its contract.
+use Rattle.puts.specs.Puts.{freshRow}
 use mathlib.Core.Path.{sym, _∙_}
 use borrow.Author.Needs.{needs}
-use Rattle.reading.proofs.fresh_row.Statement.{statement}
-use Rattle.reading.proofs.fresh_row.Tie as tie
+use Rattle.puts.proofs.fresh_row.Statement.{statement}
+use Rattle.puts.proofs.fresh_row.Tie as tie
 
 is-struct-requires : tie.Need-is-struct-requires
 is-struct-requires c κs = search needs

@@ -1,8 +1,8 @@
--- `reading::put` meets its contract.
+-- `puts::put` meets its contract.
 use mathlib.Core.Path.{refl}
 use borrow.Author.Needs.{needs}
-use Rattle.reading.proofs.put.Statement.{statement}
-use Rattle.reading.proofs.put.Tie as tie
+use Rattle.puts.proofs.put.Statement.{statement}
+use Rattle.puts.proofs.put.Tie as tie
 
 enum-told : tie.Need-enum-told
 enum-told c = search needs
