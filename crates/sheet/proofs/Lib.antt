@@ -7,3 +7,4 @@ pub mod Types
 pub mod GoodSheet
 pub mod Refusals
 pub mod OfText
+pub mod Tables

@@ -2,3 +2,4 @@ pub mod Fields
 pub mod Grammar
 pub mod Sheet
 pub mod Statements
+pub mod Tables
