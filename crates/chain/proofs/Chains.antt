@@ -25,14 +25,15 @@ use Rattle.lower.specs.declared.QPtrOp.the-variants.{BufferData, DynOffset}
 use Rattle.lower.specs.declared.Pending.{Pending}
 use Rattle.lower.specs.declared.Pending.the-variants.{Empty, Waiting}
 use Rattle.lower.specs.Steps.{flush, merged, boundOf, constantOffset}
-use Rattle.chain.specs.declared.Hop.{Hop}
-use Rattle.chain.specs.declared.Hop.the-variants.{Refuse, Go}
-use Rattle.chain.specs.declared.Move.{Move}
-use Rattle.chain.specs.declared.Move.the-variants.{Reject, Onward, Emit, Inside, Enter}
-use Rattle.chain.specs.Moves.{indexOf, indicesIn, onward, byConstant, toElement, inMemory, moveOf, hopOf}
-use Rattle.chain.specs.Written.{afterOf, weight, inRoomBehind, chainFrom, hopThen, fieldFrom, chainOf}
-use Rattle.chain.proofs.Writes.{before}
-use Rattle.chain.proofs.Lowers.{followHop, follow, more, no-more}
+use Rattle.moves.specs.declared.Hop.{Hop}
+use Rattle.moves.specs.declared.Hop.the-variants.{Refuse, Go}
+use Rattle.moves.specs.declared.Move.{Move}
+use Rattle.moves.specs.declared.Move.the-variants.{Reject, Onward, Emit, Inside, Enter}
+use Rattle.moves.specs.Moves.{indexOf, indicesIn, onward, byConstant, toElement, inMemory, moveOf, hopOf}
+use Rattle.moves.specs.Written.{afterOf, inRoomBehind}
+use Rattle.chain.specs.Chains.{weight, chainFrom, hopThen, fieldFrom, chainOf}
+use Rattle.moves.proofs.Writes.{before}
+use Rattle.moves.proofs.Lowers.{followHop, follow, more, no-more}
 
 -- ---- indices as words
 

@@ -1,4 +1,1 @@
-pub mod Writes
-pub mod Fields
-pub mod Lowers
 pub mod Chains

@@ -8,11 +8,11 @@ use borrow.Author.Needs.{needs}
 use denote.Ref.{now}
 use Rattle.shapes.specs.Rows.{answerAt}
 use Rattle.shapes.specs.Spans.{spanOf}
-use Rattle.chain.specs.declared.Hop.{Hop}
-use Rattle.chain.specs.declared.Move.{Move}
-use Rattle.chain.specs.Moves.{indexOf, indicesIn, moveOf, hopOf}
-use Rattle.chain.specs.Written.{weight, chainFrom, hopThen, fieldFrom}
-use Rattle.chain.proofs.Writes.{refused-wrote, stays-refused, prefixed}
+use Rattle.moves.specs.declared.Hop.{Hop}
+use Rattle.moves.specs.declared.Move.{Move}
+use Rattle.moves.specs.Moves.{indexOf, indicesIn, moveOf, hopOf}
+use Rattle.chain.specs.Chains.{weight, chainFrom, hopThen, fieldFrom}
+use Rattle.moves.proofs.Writes.{refused-wrote, stays-refused, prefixed}
 use Rattle.chain.proofs.Chains.{chain-ends, chain-goes, followed, rest, rest-length, weight-most, after-most, entered}
 use borrow.Fn.Kinds.{In}
 use borrow.Fn.PlainCycle.{Measures, is, falls, and}
@@ -22,12 +22,12 @@ use Rattle.chain.proofs.+array_part+struct_part.Lts-array_part as array
 use Rattle.chain.proofs.struct_part.Reads as struct
 use Rattle.chain.proofs.struct_part.Kinds as struct-kinds
 use Rattle.chain.proofs.+array_part+struct_part.Lts-struct_part as struct-lts
-use Rattle.chain.proofs.after.Reads as after-reads
-use Rattle.chain.proofs.finish.Reads as finish-reads
-use Rattle.chain.proofs.index_of.Reads as index-of-reads
-use Rattle.chain.proofs.next_field.Reads as next-field-reads
-use Rattle.chain.proofs.next_move.Reads as next-move-reads
-use Rattle.chain.proofs.prefix.Reads as prefix-reads
+use Rattle.moves.proofs.after.Reads as after-reads
+use Rattle.moves.proofs.finish.Reads as finish-reads
+use Rattle.moves.proofs.index_of.Reads as index-of-reads
+use Rattle.moves.proofs.next_field.Reads as next-field-reads
+use Rattle.moves.proofs.next_move.Reads as next-move-reads
+use Rattle.moves.proofs.prefix.Reads as prefix-reads
 use Rattle.shapes.proofs.rows.span.Reads as span-reads
 use Rattle.chain.proofs.+array_part+struct_part.{statement}
 use Rattle.chain.proofs.+array_part+struct_part.Tie.{close}

@@ -1,8 +1,8 @@
 -- `chain::lower_from` meets its contract: 2 before all else, and then the array part from the first step on. Assumes nothing.
 use native.Mathlib.Omega.{arith}
 use denote.Ref.{now}
-use Rattle.chain.specs.Written.{roomOf}
-use Rattle.chain.proofs.Writes.{refused-wrote}
+use Rattle.chain.specs.Chains.{roomOf}
+use Rattle.moves.proofs.Writes.{refused-wrote}
 use Rattle.chain.proofs.Chains.{weight-most, too-many, few-enough}
 use borrow.Author.Needs.{needs}
 use Rattle.chain.proofs.lower_from.Statement.{statement}

@@ -14,9 +14,9 @@ use Rattle.lower.specs.declared.Pending.the-variants.{Empty, Waiting}
 use Rattle.lower.specs.Steps.{flush}
 use Rattle.steps.specs.Stored.{StoredAt}
 use Rattle.steps.proofs.Stored.{in-front, none-stored}
-use Rattle.chain.specs.declared.Walk.{Walk}
-use Rattle.chain.specs.declared.Walk.the-variants.{Steps, Refused}
-use Rattle.chain.specs.Written.{walkOf, stepsOf, inRoomBehind, Wrote, inFrontOf, Prefixed, afterOf}
+use Rattle.moves.specs.declared.Walk.{Walk}
+use Rattle.moves.specs.declared.Walk.the-variants.{Steps, Refused}
+use Rattle.moves.specs.Written.{walkOf, stepsOf, inRoomBehind, Wrote, inFrontOf, Prefixed, afterOf}
 
 -- ---- room
 

@@ -1,9 +1,9 @@
--- `chain::in_memory` meets its contract: by what the memory is made of. Assumes nothing.
+-- `moves::in_memory` meets its contract: by what the memory is made of. Assumes nothing.
 use mathlib.Core.Path.{ap, _∙_}
-use Rattle.chain.specs.Moves.{toElement}
+use Rattle.moves.specs.Moves.{toElement}
 use borrow.Author.Needs.{needs}
-use Rattle.chain.proofs.in_memory.Statement.{statement}
-use Rattle.chain.proofs.in_memory.Tie as tie
+use Rattle.moves.proofs.in_memory.Statement.{statement}
+use Rattle.moves.proofs.in_memory.Tie as tie
 
 enum-told : tie.Need-enum-told
 enum-told c = search needs

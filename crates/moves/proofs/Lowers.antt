@@ -24,12 +24,12 @@ use Rattle.lower.specs.declared.QPtrOp.the-variants.{HandleArrayIndex, BufferDa
 use Rattle.lower.specs.declared.Pending.{Pending}
 use Rattle.lower.specs.declared.Pending.the-variants.{Empty, Waiting}
 use Rattle.lower.specs.Steps.{flush, merged, Field, fieldOf, boundOf, constantOffset, byConstant, toField, toElement, toPart, Move, move, lowerFrom}
-use Rattle.chain.specs.declared.Hop.{Hop}
-use Rattle.chain.specs.declared.Hop.the-variants.{Refuse, Go}
-use Rattle.chain.specs.declared.Move.the-variants as code
-use Rattle.chain.specs.declared.Move.{Move as CodeMove}
-use Rattle.chain.specs.Moves as moves
-use Rattle.chain.proofs.Writes.{before}
+use Rattle.moves.specs.declared.Hop.{Hop}
+use Rattle.moves.specs.declared.Hop.the-variants.{Refuse, Go}
+use Rattle.moves.specs.declared.Move.the-variants as code
+use Rattle.moves.specs.declared.Move.{Move as CodeMove}
+use Rattle.moves.specs.Moves as moves
+use Rattle.moves.proofs.Writes.{before}
 
 module _ (answers : ℕ → Answer) (offsets members : List ℕ) where
   -- as the definitions have them

@@ -1,11 +1,11 @@
--- `chain::to_element` meets its contract: the element's layout, and whether the index is constant. Assumes nothing.
+-- `moves::to_element` meets its contract: the element's layout, and whether the index is constant. Assumes nothing.
 use mathlib.Core.Path.{_≡_, sym, ap, _∙_}
 use mir.Syntax.{w32}
 use mir.ValLaws.{toZ-ofZ}
 use Rattle.lower.proofs.InCode.{bytes-is, dynamic-is}
 use borrow.Author.Needs.{needs}
-use Rattle.chain.proofs.to_element.Statement.{statement}
-use Rattle.chain.proofs.to_element.Tie as tie
+use Rattle.moves.proofs.to_element.Statement.{statement}
+use Rattle.moves.proofs.to_element.Tie as tie
 
 enum-known-a : tie.Need-enum-known-a
 enum-known-a c = search needs

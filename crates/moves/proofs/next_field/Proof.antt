@@ -1,9 +1,9 @@
--- `chain::next_field` meets its contract: an index must be known, and a field of that number there. Assumes nothing.
-use Rattle.chain.specs.Moves.{hopOf}
-use Rattle.chain.proofs.Fields.{word-negative, word-past-offsets, word-past-types, word-there}
+-- `moves::next_field` meets its contract: an index must be known, and a field of that number there. Assumes nothing.
+use Rattle.moves.specs.Moves.{hopOf}
+use Rattle.moves.proofs.Fields.{word-negative, word-past-offsets, word-past-types, word-there}
 use borrow.Author.Needs.{needs}
-use Rattle.chain.proofs.next_field.Statement.{statement}
-use Rattle.chain.proofs.next_field.Tie as tie
+use Rattle.moves.proofs.next_field.Statement.{statement}
+use Rattle.moves.proofs.next_field.Tie as tie
 
 enum-told : tie.Need-enum-told
 enum-told c = search needs

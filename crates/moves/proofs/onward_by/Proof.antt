@@ -1,4 +1,4 @@
--- `chain::onward_by` meets its contract: what waits is the callee's. Assumes nothing.
+-- `moves::onward_by` meets its contract: what waits is the callee's. Assumes nothing.
 use mathlib.Core.Path.{_≡_, refl, sym, _∙_}
 use mir.Syntax.{w32}
 use mir.ValLaws.{toZ-ofZ}
@@ -6,8 +6,8 @@ use Rattle.arith.specs.Refusals.{ok}
 use Rattle.lower.specs.Steps.{merged}
 use Rattle.lower.proofs.InCode.{now-is, over-is}
 use borrow.Author.Needs.{needs}
-use Rattle.chain.proofs.onward_by.Statement.{statement}
-use Rattle.chain.proofs.onward_by.Tie as tie
+use Rattle.moves.proofs.onward_by.Statement.{statement}
+use Rattle.moves.proofs.onward_by.Tie as tie
 
 merge-requires : tie.Need-merge-requires
 merge-requires c κs = search needs

@@ -21,10 +21,10 @@ use Rattle.lower.specs.declared.QPtrOp.{QPtrOp}
 use Rattle.lower.specs.declared.QPtrOp.the-variants.{HandleArrayIndex, DynOffset}
 use Rattle.lower.specs.declared.Pending.{Pending}
 use Rattle.lower.specs.Steps.{merged, Field, fieldOf, boundOf, constantOffset}
-use Rattle.chain.specs.declared.Hop.{Hop}
-use Rattle.chain.specs.declared.Hop.the-variants.{Refuse, Go}
-use Rattle.chain.specs.declared.Move.{Move}
-use Rattle.chain.specs.declared.Move.the-variants.{Reject, Onward, Emit, Inside, Enter}
+use Rattle.moves.specs.declared.Hop.{Hop}
+use Rattle.moves.specs.declared.Hop.the-variants.{Refuse, Go}
+use Rattle.moves.specs.declared.Move.{Move}
+use Rattle.moves.specs.declared.Move.the-variants.{Reject, Onward, Emit, Inside, Enter}
 
 -- ---- the lent lists, read
 

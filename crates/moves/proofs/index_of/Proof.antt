@@ -1,7 +1,7 @@
--- `chain::index_of` meets its contract. Assumes nothing.
+-- `moves::index_of` meets its contract. Assumes nothing.
 use borrow.Author.Tests.{eq-eqb, ne-eqb}
-use Rattle.chain.proofs.index_of.Statement.{statement}
-use Rattle.chain.proofs.index_of.Tie as tie
+use Rattle.moves.proofs.index_of.Statement.{statement}
+use Rattle.moves.proofs.index_of.Tie as tie
 
 returns : tie.Need-returns
 returns c = rw (eq-eqb _ _ (c .if1 .taken))

@@ -1,14 +1,14 @@
--- `chain::hop_to` meets its contract: 22, then the sum, then the field's layout. Assumes nothing.
+-- `moves::hop_to` meets its contract: 22, then the sum, then the field's layout. Assumes nothing.
 use mathlib.Core.Path.{_≡_, sym, _∙_}
 use native.Mathlib.Omega.{arith}
 use mir.Syntax.{w32}
 use mir.ValLaws.{toZ-pos}
 use borrow.Author.Tests.{le-leb, lt-leb}
 use Rattle.lower.proofs.InCode.{now-is, over-is}
-use Rattle.chain.specs.Moves.{fieldHop}
+use Rattle.moves.specs.Moves.{fieldHop}
 use borrow.Author.Needs.{needs}
-use Rattle.chain.proofs.hop_to.Statement.{statement}
-use Rattle.chain.proofs.hop_to.Tie as tie
+use Rattle.moves.proofs.hop_to.Statement.{statement}
+use Rattle.moves.proofs.hop_to.Tie as tie
 
 returns : tie.Need-returns
 unfolding fieldHop

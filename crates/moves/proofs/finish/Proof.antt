@@ -1,14 +1,14 @@
--- `chain::finish` meets its contract: 24 where the last step has no room. Assumes nothing.
+-- `moves::finish` meets its contract: 24 where the last step has no room. Assumes nothing.
 use mathlib.Core.Path.{refl}
 use mathlib.Core.List.{[]}
 use native.Mathlib.Omega.{arith}
 use mir.Syntax.{w32}
 use mir.ValLaws.{toZ-ofZ}
 use Rattle.steps.proofs.Stored.{none-stored}
-use Rattle.chain.proofs.Writes.{no-room, has-room, refused-wrote, ok-wrote}
+use Rattle.moves.proofs.Writes.{no-room, has-room, refused-wrote, ok-wrote}
 use borrow.Author.Needs.{needs}
-use Rattle.chain.proofs.finish.Statement.{statement}
-use Rattle.chain.proofs.finish.Tie as tie
+use Rattle.moves.proofs.finish.Statement.{statement}
+use Rattle.moves.proofs.finish.Tie as tie
 
 enum-told : tie.Need-enum-told
 enum-told c = search needs

@@ -1,8 +1,8 @@
--- `chain::next_move` meets its contract: by the layout. Assumes nothing.
-use Rattle.chain.specs.Moves.{moveOf}
+-- `moves::next_move` meets its contract: by the layout. Assumes nothing.
+use Rattle.moves.specs.Moves.{moveOf}
 use borrow.Author.Needs.{needs}
-use Rattle.chain.proofs.next_move.Statement.{statement}
-use Rattle.chain.proofs.next_move.Tie as tie
+use Rattle.moves.proofs.next_move.Statement.{statement}
+use Rattle.moves.proofs.next_move.Tie as tie
 
 enum-known-l : tie.Need-enum-known-l
 enum-known-l c = search needs

@@ -1,4 +1,4 @@
--- `chain::prefix` meets its contract: the step, and what waits before it. Assumes nothing.
+-- `moves::prefix` meets its contract: the step, and what waits before it. Assumes nothing.
 use mathlib.Core.Path.{refl}
 use mathlib.Core.List.{[], _∷_}
 use mir.Syntax.{w32}
@@ -6,8 +6,8 @@ use mir.ValLaws.{toZ-ofZ}
 use Rattle.lower.specs.declared.QPtrOp.the-variants.{Offset}
 use Rattle.steps.proofs.Stored.{in-front, none-stored}
 use borrow.Author.Needs.{needs}
-use Rattle.chain.proofs.prefix.Statement.{statement}
-use Rattle.chain.proofs.prefix.Tie as tie
+use Rattle.moves.proofs.prefix.Statement.{statement}
+use Rattle.moves.proofs.prefix.Tie as tie
 
 enum-known-r : tie.Need-enum-known-r
 enum-known-r c = search needs
