@@ -6,7 +6,7 @@ use moves::Move;
 use moves::Walk;
 use shapes::TypeLayout;
 ghost use mathlib.Core.Path.{_≡_};
-ghost use Prim.Native.Nat.{_≤_, min};
+ghost use Prim.Native.Nat.{_≤_};
 ghost use lib.ListN.{length};
 ghost use Rattle.moves.specs.Moves.{indicesIn};
 ghost use Rattle.moves.specs.Written.{Wrote, inRoomBehind};
@@ -169,12 +169,6 @@ fn struct_part(
     }
 }
 
-fn smaller(a: usize, b: usize) -> usize
-    ensures { λ r. ⌜ r ≡ min a b ⌝ }
-{
-    if b < a { b } else { a }
-}
-
 // A chain of at most 255 indices, each two words, from a layout on: its steps in the five lists, or the refusal and the lists as they were.
 pub fn lower_from(
     layouts: &[u32],
@@ -194,8 +188,8 @@ pub fn lower_from(
     if 510 < chain.len() {
         return Walk::Refused(2);
     }
-    let most = smaller(bounds.len(), smaller(marks.len(), indices.len()));
-    let room = smaller(kinds.len(), smaller(bytes.len(), most));
+    let most = arith::smaller(bounds.len(), arith::smaller(marks.len(), indices.len()));
+    let room = arith::smaller(kinds.len(), arith::smaller(bytes.len(), most));
     array_part(
         layouts,
         types,

@@ -5,7 +5,7 @@ use shapes::TypeLayout;
 use shapes::rows;
 ghost use mathlib.Core.Path.{_≡_};
 ghost use mathlib.Core.Bool.{cond, _||_};
-ghost use Prim.Native.Nat.{_+_, _/_, _<_, min};
+ghost use Prim.Native.Nat.{_+_, _/_, _<_};
 ghost use lib.Dec.{leb, eqb};
 ghost use lib.ListN.{length, set};
 ghost use Rattle.shapes.specs.Spans.{Reading, answerBy};
@@ -153,12 +153,6 @@ fn elements_containing(
     }
 }
 
-fn lesser(a: usize, b: usize) -> usize
-    ensures { λ r. ⌜ r ≡ min a b ⌝ }
-{
-    if a < b { a } else { b }
-}
-
 // The fields whose offsets and types are these.
 fn fields_containing(
     write: bool,
@@ -173,7 +167,7 @@ fn fields_containing(
     requires { ⌜ length (now offsets) < 4294967296 ⌝ }
     ensures { λ r. ⌜ ((f : Reading) → both r (now (out .exit)) ≡ counted write (now (out .entry)) (fieldsHolding (λ t. answerBy f (answerAt (now (layouts .entry)) n t)) (now (offsets .entry)) (now (types .entry)) 0 start end)) ⌝ }
 {
-    let limit = lesser(offsets.len(), types.len());
+    let limit = arith::smaller(offsets.len(), types.len());
     let mut count = 0;
     let mut i = 0;
     while i < limit {

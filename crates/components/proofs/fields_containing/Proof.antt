@@ -24,13 +24,13 @@ Inv-loop write layouts n offsets types start end out₀ limit count₀ i₀ out 
 abbrev μ-loop : tie.MeasureT-loop
 μ-loop write layouts n offsets types start end out₀ limit count₀ i₀ out count i = limit - i
 
-lesser-requires : tie.Need-lesser-requires Inv-loop μ-loop
-lesser-requires c κs = search needs
+smaller-requires : tie.Need-smaller-requires Inv-loop μ-loop
+smaller-requires c κs = search needs
 
 loop-holds : tie.Need-loop-holds Inv-loop μ-loop
 loop-holds c =
     let a = c .before .before .before .before .before .args in
-    (omega arith, c .lesser .ensures, omega arith, refl, λ f. count-start (a .write) (now (a .out)) (fieldsHolding (λ t. answerBy f (answerAt (now (a .layouts)) (a .n) t)) (now (a .offsets)) (now (a .types)) 0 (a .start) (a .end)))
+    (omega arith, c .smaller .ensures, omega arith, refl, λ f. count-start (a .write) (now (a .out)) (fieldsHolding (λ t. answerBy f (answerAt (now (a .layouts)) (a .n) t)) (now (a .offsets)) (now (a .types)) 0 (a .start) (a .end)))
 
 mul-answer-at : tie.Need-mul-answer-at Inv-loop μ-loop
 mul-answer-at c = omega arith
@@ -91,7 +91,7 @@ fields-containing-spec =
     (tie.spec
     Inv-loop
     μ-loop
-    lesser-requires
+    smaller-requires
     loop-holds
     mul-answer-at
     shared-slice-read-answer-at
