@@ -1,7 +1,6 @@
 -- The questions of a text from places in it, computed from the definitions. Assumes nothing.
-use Prim.Native.Nat.{ℕ}
 use mathlib.Core.Path.{_≡_, refl}
-use mathlib.Core.List.{List, [], _∷_, map}
+use mathlib.Core.List.{[], _∷_, map}
 use Rattle.decimal.specs.Text.{bytes}
 use Rattle.spirv.specs.declared.Index.the-variants.{Known, Unknown}
 use Rattle.spirv.specs.declared.ChainOp.the-variants.{AccessChain}

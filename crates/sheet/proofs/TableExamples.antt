@@ -1,7 +1,6 @@
 -- The tables of a sheet, computed from the definitions. Assumes nothing.
-use Prim.Native.Nat.{ℕ}
 use mathlib.Core.Path.{_≡_, refl}
-use mathlib.Core.List.{List, [], _∷_}
+use mathlib.Core.List.{[], _∷_}
 use Rattle.arith.specs.Refusals.{ok}
 use Rattle.spirv.specs.Rows.{encodeRow}
 use Rattle.spirv.specs.Reduced.{takenIn, reducedBy, reduced, declRow, givenWords}

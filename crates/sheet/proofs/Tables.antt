@@ -1,10 +1,10 @@
 -- Laws of a sheet's tables: their lengths, one type more, and spans that never overlap. Assumes nothing.
 use Prim.Native.Nat.{ℕ, zero, suc, _+_, _-_, _*_, _≤_, _<_}
 use native.Mathlib.Omega.{arith}
-use mathlib.Core.Path.{_≡_, refl, sym, ap, _∙_}
+use mathlib.Core.Path.{_≡_, refl, ap, _∙_}
 use mathlib.Core.List.{List, [], _∷_, _++_, append-assoc, append-nil}
-use mathlib.Core.Option.{Option, none, some}
-use lib.ListN.{length, take, drop, getElem?, replicate, length-append, length-take, length-replicate}
+use mathlib.Core.Option.{some}
+use lib.ListN.{length, take, drop, getElem?, replicate, length-append, length-replicate}
 use lib.Seq.{sets, sets-eq, length-take-le, drop-append-add, take-append-seam, take-at}
 use Rattle.arith.proofs.Results.{no-some, some-is}
 use Rattle.spirv.specs.Decl.{Decl}

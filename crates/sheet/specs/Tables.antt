@@ -1,13 +1,13 @@
 -- The tables of a sheet: lent lists of 32-bit words. Each list is the words of the sheet, followed by what it held before.
 use Prim.Native.Nat.{ℕ, _+_, _*_, _≤_, _<_}
 use mathlib.Core.Path.{_≡_}
-use mathlib.Core.Bool.{Bool, true, _&&_}
+use mathlib.Core.Bool.{Bool, _&&_}
 use mathlib.Core.List.{List, [], _∷_, _++_}
 use mathlib.Core.Option.{some}
 use lib.Dec.{leb}
 use lib.ListN.{length, take, drop, getElem?}
-use Rattle.arith.specs.Refusals.{Result, ok, refused, _>>=_, _>>_, refuse_unless_, short-list}
-use Rattle.spirv.specs.Decl.{Decl, isStruct}
+use Rattle.arith.specs.Refusals.{Result, ok, _>>=_, _>>_, refuse_unless_, short-list}
+use Rattle.spirv.specs.Decl.{Decl}
 use Rattle.spirv.specs.Rows.{flagWord, encodeRow}
 use Rattle.spirv.specs.Reduced.{declRow, givenWords}
 use Rattle.shapes.specs.declared.LayoutConfig.{LayoutConfig}

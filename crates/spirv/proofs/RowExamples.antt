@@ -2,7 +2,7 @@
 use Prim.Native.Nat.{ℕ}
 use mathlib.Core.Path.{_≡_, refl}
 use mathlib.Core.Bool.{true, false}
-use mathlib.Core.List.{List, [], _∷_, map}
+use mathlib.Core.List.{[], _∷_, map}
 use Rattle.spirv.specs.declared.Length.the-variants.{Fixed, Specialization}
 use Rattle.spirv.specs.declared.Stride.the-variants.{Decorated, Undecorated}
 use Rattle.spirv.specs.declared.SpvType.the-variants as spv
@@ -11,8 +11,8 @@ use Rattle.spirv.specs.declared.MemberDecoration.{MemberDecoration}
 use Rattle.spirv.specs.declared.RowReading.the-variants as row
 use Rattle.spirv.specs.declared.IndexReading.the-variants as index
 use Rattle.spirv.specs.declared.Index.the-variants.{Known, Unknown}
-use Rattle.spirv.specs.Rows.{sameWords, encodeRow, typeOf, rowOf, rowOfWords, decodeRow, structRow, plainRow, encodeIndex, decodeIndex}
-use Rattle.spirv.specs.Reduced.{Reduction, refusing, takenIn, reducedBy, reduced, givenWords}
+use Rattle.spirv.specs.Rows.{sameWords, encodeRow, typeOf, rowOf, rowOfWords, decodeRow, structRow, plainRow, decodeIndex}
+use Rattle.spirv.specs.Reduced.{refusing, takenIn, reducedBy, reduced, givenWords}
 
 rows : map encodeRow (plainRow spv.Bool ∷ plainRow (spv.Int 32) ∷ plainRow (spv.Vector 1 3) ∷ plainRow (spv.Array 2 Specialization (Decorated 16)) ∷ plainRow (spv.Array 2 (Fixed 4) Undecorated) ∷ plainRow (spv.RuntimeArray 5 Undecorated) ∷ structRow (spv.Struct true) 7 3 14 2 ∷ plainRow (spv.Pointer 12 6) ∷ [])
     ≡ (66 ∷ 0 ∷ 0 ∷ 0 ∷ 0 ∷ 0 ∷ [])
