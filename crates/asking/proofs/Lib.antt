@@ -1,3 +1,5 @@
+pub mod Opened
 pub mod Stays
 pub mod Onward
 pub mod Run
+pub mod Examples
