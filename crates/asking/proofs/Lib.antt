@@ -1,4 +1,3 @@
-pub mod Opened
 pub mod Stays
 pub mod Onward
 pub mod Run

@@ -1,4 +1,3 @@
-pub mod Opened
 pub mod Pieces
 pub mod Same
 pub mod Took
