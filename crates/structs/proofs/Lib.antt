@@ -1,3 +1,4 @@
+pub mod Opened
 pub mod Inversions
 pub mod Placement
 pub mod Walk

@@ -1,0 +1,6 @@
+pub mod Opened
+pub mod Natural
+pub mod Bounds
+pub mod OneType
+pub mod AllTypes
+pub mod OfSheet
