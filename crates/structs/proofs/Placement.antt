@@ -58,7 +58,7 @@ test-assoc n false r next = refl
 
 -- ---- the next member
 
-abbrev behind : ℕ → Placed → Placed
+abbrev pub behind : ℕ → Placed → Placed
 behind o p = record { offsets = o ∷ p .offsets; extent = p .extent }
 
 pub in-turn-cons : (cfg : LayoutConfig) (x : Extent) (m : MemTypeLayout) (ms : List MemTypeLayout)
