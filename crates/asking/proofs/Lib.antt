@@ -1,3 +1,4 @@
 pub mod Stays
 pub mod Onward
 pub mod Run
+pub mod Examples

@@ -1,12 +1,10 @@
 -- From one line to the next: the questions that are left. Assumes nothing.
-use Prim.Native.Nat.{ℕ, suc, _+_, _*_, _≤_, _<_}
+use Prim.Native.Nat.{ℕ, _+_, _*_, _≤_}
 use native.Mathlib.Omega.{arith}
 use mathlib.Core.Path.{_≡_, refl, sym, ap, _∙_}
 use mathlib.Core.List.{List, [], _∷_, _++_}
-use mathlib.Core.Option.{Option, none, some}
+use mathlib.Core.Option.{Option}
 use lib.ListN.{length, drop, length-append}
-use lib.Seq.{sets}
-use Rattle.decimal.specs.Text.{split}
 use Rattle.spirv.specs.declared.Index.{Index}
 use Rattle.spirv.specs.Rows.{encodeIndex}
 use Rattle.spirv.specs.Questions.{Question}
@@ -14,7 +12,6 @@ use Rattle.spirv.proofs.Rows.{index-length}
 use Rattle.sheet.specs.Fields.{readIndex, readAll}
 use Rattle.sheet.specs.Grammar.{Line, readLine}
 use Rattle.sheet.specs.Sheet.{indexCount}
-use Rattle.sheet.specs.Tables.{over}
 use Rattle.sheet.proofs.Tables.{front}
 use Rattle.fields.specs.Pieces.{part, Piece, behind}
 use Rattle.fields.proofs.Pieces.{split-some, split-end}
@@ -23,7 +20,7 @@ use Rattle.lines.specs.declared.Ask.the-variants as ask
 use Rattle.lines.specs.Says.{countOf, questionOf, Asks, indexWords, Stored}
 use Rattle.asking.specs.declared.NextQuestion.{NextQuestion}
 use Rattle.asking.specs.declared.NextQuestion.the-variants as next
-use Rattle.asking.specs.Questions.{any-type, askedIn, questionsIn, questionsFrom, Hands, Handed, Next, Short, Ended, Steps}
+use Rattle.asking.specs.Questions.{any-type, askedIn, questionsIn, questionsFrom, Hands, Handed, Short, Steps}
 
 -- ---- a question's indices
 

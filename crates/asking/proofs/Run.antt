@@ -1,25 +1,24 @@
 -- Of a sheet that is read the questions from its start on are its questions. Assumes nothing.
-use Prim.Native.Nat.{ℕ, suc, _+_, _*_, _≤_, _<_}
+use Prim.Native.Nat.{ℕ, suc, _+_, _≤_}
 use native.Mathlib.Omega.{arith}
 use mathlib.Core.Path.{_≡_, refl, sym, ap, _∙_, subst}
-use mathlib.Core.Bool.{Bool, true, false, cond}
 use mathlib.Core.List.{List, [], _∷_, _++_, append-assoc, append-nil}
 use mathlib.Core.Option.{Option, none, some}
 use borrow.Author.Tests.{ltb-true}
-use lib.Dec.{leb, ltb}
-use lib.ListN.{length, drop, length-append}
-use Rattle.arith.specs.Refusals.{Result, ok, refused, _>>=_, _>>_, refuse_unless_, misread, oversize}
-use Rattle.arith.proofs.Results.{never, value-is, Went, went, passed, not-refused}
+use lib.Dec.{ltb}
+use lib.ListN.{length, length-append}
+use Rattle.arith.specs.Refusals.{ok, _>>=_, _>>_, refuse_unless_, oversize}
+use Rattle.arith.proofs.Results.{never, value-is, went, passed, not-refused}
 use Rattle.decimal.specs.Text.{split}
 use Rattle.spirv.specs.declared.MemberDecoration.{MemberDecoration}
 use Rattle.spirv.specs.Decl.{Decl}
 use Rattle.spirv.specs.Questions.{Question}
 use Rattle.sheet.specs.Grammar.{Line, Setting, Declared, Decorated, Asked, readLine}
-use Rattle.sheet.specs.Sheet.{Sheet, max-types, max-members, max-indices, memberCount, indexCount, takesDecoration, rises, decorateLast, goodSetting, firstLine, nextLine, formed, finished, readLines, readPieces, readSheet}
+use Rattle.sheet.specs.Sheet.{Sheet, max-types, max-indices, indexCount, decorateLast, firstLine, nextLine, formed, finished, readLines, readPieces, readSheet}
 use Rattle.sheet.specs.Statements.{All, FitsQuestion}
 use Rattle.sheet.proofs.GoodSheet.{reads-good}
 use Rattle.sheet.proofs.Types.{all-wider}
-use Rattle.asking.specs.Questions.{any-type, questionIn, askedIn, questionsIn, questionsFrom, Short, RunThrough, RunsThrough, AlwaysSuffices}
+use Rattle.asking.specs.Questions.{any-type, questionIn, questionsIn, questionsFrom, RunsThrough, AlwaysSuffices}
 use Rattle.asking.proofs.Stays.{line-stays}
 
 -- ---- what a line adds

@@ -2,16 +2,15 @@
 use Prim.Native.Nat.{ℕ, _≤_, _<_}
 use Prim.Native.String.{String}
 use native.Mathlib.Omega.{arith}
-use mathlib.Core.Path.{_≡_, refl, sym, ap, _∙_}
+use mathlib.Core.Path.{_≡_, refl, ap}
 use mathlib.Core.Bool.{Bool, true, false, cond}
 use mathlib.Core.List.{List, [], _∷_}
 use mathlib.Core.Option.{Option, none, some}
 use borrow.Author.Tests.{ltb-true, lt-ltb}
 use lib.Dec.{ltb}
 use Rattle.arith.specs.Options.{_>>=_}
-use Rattle.arith.proofs.Results.{no-some, some-is, WentOn, went-on, Let, let-through}
+use Rattle.arith.proofs.Results.{no-some, went-on, let-through}
 use Rattle.decimal.specs.Text.{bytes, same, split}
-use Rattle.decimal.specs.Decimal.{readNumber}
 use Rattle.sheet.specs.Fields.{Form, field, readType, readAll, types}
 use Rattle.sheet.specs.Grammar.{Line, declareStruct, grammar, formOf, byFirst, readLine}
 

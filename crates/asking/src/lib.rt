@@ -1,8 +1,6 @@
 // The questions of a sheet that was read, one after another, each from the place behind the last.
 use lines::Ask;
 use lines::SheetLine;
-ghost use mathlib.Core.Path.{_≡_};
-ghost use lib.ListN.{length};
 ghost use Rattle.sheet.specs.Grammar.{readLine};
 ghost use Rattle.asking.specs.Questions.{any-type, Finds, Hands, Steps};
 

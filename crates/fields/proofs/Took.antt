@@ -2,10 +2,10 @@
 use Prim.Native.Nat.{ℕ, suc, _+_, _-_, _≤_, _<_}
 use native.Mathlib.Omega.{arith}
 use mathlib.Core.Path.{_≡_, refl, sym, ap, _∙_}
-use mathlib.Core.Bool.{Bool, true, false, cond}
+use mathlib.Core.Bool.{cond}
 use mathlib.Core.List.{List, [], _∷_}
 use mathlib.Core.Option.{Option, none, some}
-use lib.ListN.{length, getD, drop}
+use lib.ListN.{length, getD}
 use lib.Dec.{eqb}
 use lib.Seq.{take-length}
 use Rattle.arith.specs.Options.{_>>=_}
@@ -14,7 +14,6 @@ use Rattle.decimal.specs.declared.Reading.{Reading}
 use Rattle.decimal.specs.Reading.{reading}
 use Rattle.decimal.specs.Decimal.{readNumber}
 use Rattle.spirv.specs.declared.Decoration.{Decoration}
-use Rattle.spirv.specs.declared.Index.{Index}
 use Rattle.spirv.specs.declared.Index.the-variants.{Known, Unknown}
 use Rattle.sheet.specs.Fields.{Form, field, decoration-value, readDecoration, readIndex}
 use Rattle.fields.specs.Pieces.{part, Piece, behind}

@@ -1,13 +1,12 @@
 -- The fields that are left of a line: none, or all of one kind, counted and written one by one. Assumes nothing.
-use Prim.Native.Nat.{ℕ, suc, _+_, _≤_, _<_}
+use Prim.Native.Nat.{ℕ, _+_, _≤_, _<_}
 use native.Mathlib.Omega.{arith}
 use mathlib.Core.Path.{_≡_, refl, sym, ap, _∙_}
-use mathlib.Core.Bool.{Bool, true, false, cond}
+use mathlib.Core.Bool.{Bool}
 use mathlib.Core.List.{List, [], _∷_, _++_, append-assoc, append-nil}
 use mathlib.Core.Option.{Option, none, some}
 use borrow.Author.Tests.{lt-ltb, eq-eqb, ne-eqb}
-use lib.Dec.{eqb}
-use lib.ListN.{length, set, length-append, length-set}
+use lib.ListN.{length, length-append}
 use lib.Seq.{sets, length-sets}
 use Rattle.arith.specs.Options.{_>>=_}
 use Rattle.arith.proofs.Results.{no-some, some-is}
@@ -18,9 +17,8 @@ use Rattle.spirv.specs.declared.Index.{Index}
 use Rattle.spirv.specs.Rows.{encodeIndex}
 use Rattle.spirv.specs.Questions.{Question}
 use Rattle.spirv.proofs.Words.{sets-append}
-use Rattle.spirv.proofs.Rows.{index-length}
 use Rattle.sheet.specs.Fields.{readType, readIndex, readAll, end, types, indices}
-use Rattle.sheet.specs.Grammar.{Line, Declared, Asked, declare, declareStruct}
+use Rattle.sheet.specs.Grammar.{Declared, Asked, declare, declareStruct}
 use Rattle.fields.specs.Pieces.{behind}
 use Rattle.fields.specs.Took.{Got, Lost}
 use Rattle.fields.proofs.Pieces.{split-some, behind-none}
@@ -28,7 +26,7 @@ use Rattle.lines.specs.declared.Ask.{Ask}
 use Rattle.lines.specs.declared.Ask.the-variants as ask
 use Rattle.lines.specs.declared.Count.{Count}
 use Rattle.lines.specs.declared.Count.the-variants as count
-use Rattle.lines.specs.Says.{countOf, questionOf, Declares, Asks, countedFrom, indexWords, Stored}
+use Rattle.lines.specs.Says.{countOf, questionOf, Declares, Asks, countedFrom, indexWords}
 
 -- ---- none
 

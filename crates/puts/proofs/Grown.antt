@@ -1,12 +1,10 @@
 -- The tables with what a line writes are those of the sheet with that line. Assumes nothing.
-use Prim.Native.Nat.{ℕ, suc, _+_, _-_, _*_}
+use Prim.Native.Nat.{ℕ, _+_, _-_, _*_}
 use native.Mathlib.Omega.{arith}
 use mathlib.Core.Path.{_≡_, refl, sym, ap, _∙_}
-use mathlib.Core.Bool.{true, false, cond}
-use mathlib.Core.List.{List, [], _∷_, _++_}
-use mathlib.Core.Option.{Option}
-use lib.ListN.{length, replicate, take, length-append, length-replicate}
-use lib.Seq.{sets, take-all}
+use mathlib.Core.List.{List, [], _∷_}
+use lib.ListN.{length, replicate, length-append, length-replicate}
+use lib.Seq.{take-all}
 use Rattle.spirv.specs.declared.MemberDecoration.{MemberDecoration}
 use Rattle.spirv.specs.declared.SpvType.{SpvType}
 use Rattle.spirv.specs.declared.DeclRow.{DeclRow}
@@ -14,8 +12,7 @@ use Rattle.spirv.specs.Decl.{Decl}
 use Rattle.spirv.specs.Rows.{encodeRow}
 use Rattle.spirv.specs.Reduced.{reduced, declRow, givenWords}
 use Rattle.spirv.proofs.Rows.{row-length}
-use Rattle.sheet.specs.Grammar.{Line}
-use Rattle.sheet.specs.Sheet.{Sheet, memberCount}
+use Rattle.sheet.specs.Sheet.{memberCount}
 use Rattle.sheet.specs.Tables.{typesWords, membersWords, offsetsWords}
 use Rattle.sheet.proofs.Tables.{types-length, members-length, offsets-length, types-more, members-more, offsets-more}
 use Rattle.lines.specs.declared.SheetLine.{SheetLine}
@@ -23,10 +20,9 @@ use Rattle.lines.specs.declared.SheetLine.the-variants as says
 use Rattle.tally.specs.declared.Place.{Place}
 use Rattle.tally.specs.declared.Place.the-variants.{Closed, Open, After}
 use Rattle.tally.specs.declared.Tally.{Tally}
-use Rattle.tally.specs.Counts.{rowBy}
 use Rattle.tally.proofs.Decorated.{decorated, row-decorated}
-use Rattle.tally.proofs.Steps.{Matches, Added, Redone, RedoneAt, Grows}
-use Rattle.puts.specs.Puts.{Untouched, freshRow, Declaring, Redecorating, RedecoratingAll, PutDecoration, Put}
+use Rattle.tally.proofs.Steps.{Added, Redone, RedoneAt, Grows}
+use Rattle.puts.specs.Puts.{Untouched, freshRow, Declaring, RedecoratingAll, PutDecoration, Put}
 use Rattle.puts.specs.Puts.{Filled}
 use Rattle.puts.proofs.Stores.{words-more, last-again}
 use Rattle.puts.proofs.Offsets.{offsets-redone}

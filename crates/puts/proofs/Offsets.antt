@@ -4,14 +4,13 @@ use native.Mathlib.Omega.{arith}
 use mathlib.Core.Path.{_≡_, refl, sym, ap, _∙_}
 use mathlib.Core.Bool.{Bool, true, false, cond}
 use mathlib.Core.List.{List, [], _∷_, _++_, append-assoc}
-use borrow.Author.Tests.{eq-eqb, ne-eqb, lt-ltb, le-ltb, ltb-true, ltb-false}
+use borrow.Author.Tests.{eq-eqb, ne-eqb, ltb-true, ltb-false}
 use lib.Dec.{eqb, ltb}
 use lib.ListN.{length, set, take, replicate, length-append, length-replicate}
 use lib.Seq.{sets, take-append-add, take-append-le, set-append-seam, length-take-le}
 use Rattle.spirv.specs.declared.Decoration.{Decoration}
 use Rattle.spirv.specs.declared.Decoration.the-variants.{RowMajor, Offset}
 use Rattle.spirv.specs.declared.MemberDecoration.{MemberDecoration}
-use Rattle.spirv.specs.declared.DeclRow.{DeclRow}
 use Rattle.spirv.specs.Decl.{Decl, isStruct}
 use Rattle.spirv.specs.Reduced.{Reduction, takenIn, reducedBy, reduced, declRow, givenWords}
 use Rattle.tally.proofs.Decorated.{decorated, reduced-last}

@@ -1,20 +1,19 @@
 -- The lines of a sheet from the top: what the loop of a pass keeps. Assumes nothing.
-use Prim.Native.Nat.{ℕ, suc, _+_, _-_, _≤_, _<_}
+use Prim.Native.Nat.{ℕ, _+_, _-_, _≤_, _<_}
 use native.Mathlib.Omega.{arith}
 use mathlib.Core.Path.{_≡_, refl, sym, ap, _∙_, subst}
-use mathlib.Core.Bool.{Bool, true, false, cond, true≢false}
-use mathlib.Core.List.{List, [], _∷_, _++_}
-use mathlib.Core.Option.{Option, none, some}
+use mathlib.Core.Bool.{Bool, true, false}
+use mathlib.Core.List.{List, [], _∷_}
+use mathlib.Core.Option.{some}
 use borrow.Author.Tests.{lt-ltb, le-ltb}
-use lib.Dec.{ltb}
-use lib.ListN.{length, take, drop, length-drop}
-use lib.Seq.{sets, length-sets, length-take-le}
+use lib.ListN.{length, drop, length-drop}
+use lib.Seq.{length-sets, length-take-le}
 use Rattle.arith.specs.Refusals.{Result, ok, refused, _>>=_, misread}
 use Rattle.arith.proofs.Results.{value-is, number-is, never, not-both}
 use Rattle.decimal.specs.Text.{split}
 use Rattle.shapes.specs.declared.LayoutConfig.{LayoutConfig}
 use Rattle.sheet.specs.Grammar.{Line, Setting, readLine}
-use Rattle.sheet.specs.Sheet.{Sheet, memberCount, nextLine, firstLine, formed, finished, readLines, readPieces}
+use Rattle.sheet.specs.Sheet.{Sheet, nextLine, firstLine, formed, finished, readLines, readPieces}
 use Rattle.sheet.specs.Tables.{typesWords, membersWords, offsetsWords}
 use Rattle.fields.specs.Pieces.{part, Piece}
 use Rattle.fields.proofs.Pieces.{split-some}
@@ -22,13 +21,12 @@ use Rattle.lines.specs.declared.SheetLine.{SheetLine}
 use Rattle.lines.specs.declared.SheetLine.the-variants as says
 use Rattle.lines.specs.Says.{Says}
 use Rattle.tally.specs.declared.Tally.{Tally}
-use Rattle.tally.specs.declared.Step.{Step}
 use Rattle.tally.specs.declared.Step.the-variants.{Next, Refused}
 use Rattle.tally.specs.Counts.{readIn, Small, judged, judgedFirst, startTally}
-use Rattle.tally.proofs.Steps.{Matches, Went, next-line, line-stops, reads-more, few-declared, some-type, start-matches, first-went, first-stops}
+use Rattle.tally.proofs.Steps.{Matches, next-line, line-stops, reads-more, few-declared, some-type, start-matches, first-went, first-stops}
 use Rattle.reading.specs.declared.End.{End}
 use Rattle.reading.specs.declared.End.the-variants as end
-use Rattle.puts.specs.Puts.{Untouched, Filled, declaredCount, Putable, Put, Wrote}
+use Rattle.puts.specs.Puts.{Untouched, Filled, declaredCount, Putable, Wrote}
 use Rattle.reading.specs.Reads.{emptySheet, endOf, finishedBy, Passed}
 use Rattle.puts.proofs.Grown.{grown}
 

@@ -13,7 +13,7 @@ ghost use Rattle.sheet.specs.Grammar.{Setting};
 ghost use Rattle.sheet.specs.Sheet.{readLines, readPieces};
 ghost use Rattle.sheet.specs.Tables.{settingWords};
 ghost use Rattle.puts.specs.Puts.{Putable, Wrote};
-ghost use Rattle.reading.specs.Reads.{endOf, finishedBy, emptySheet, Passed, fitsBy, ReadsInto};
+ghost use Rattle.reading.specs.Reads.{finishedBy, emptySheet, Passed, fitsBy, ReadsInto};
 
 // What a pass comes to: the setting and the counts, or the refusal.
 pub enum End {

@@ -8,3 +8,4 @@ pub mod GoodSheet
 pub mod Refusals
 pub mod OfText
 pub mod Tables
+pub mod TableExamples

@@ -2,17 +2,18 @@
 use Prim.Native.Nat.{ℕ, zero, suc, _+_, _-_, _*_, _≤_, _<_}
 use native.Mathlib.Omega.{arith}
 use mathlib.Core.Path.{_≡_, refl, sym, ap, _∙_}
+use mathlib.Core.Bool.{Bool, true, false, cond, true≢false}
 use mathlib.Core.List.{List, [], _∷_, _++_, append-assoc, append-nil}
-use mathlib.Core.Option.{Option, none, some}
-use lib.ListN.{length, take, drop, getElem?, replicate, length-append, length-take, length-replicate}
-use lib.Seq.{sets, sets-eq, length-take-le, drop-append-add, take-append-seam, take-at}
+use mathlib.Core.Option.{some}
+use lib.ListN.{length, take, drop, getElem?, replicate, length-append, length-replicate, length-drop}
+use lib.Seq.{sets, sets-eq, length-take-le, drop-append-add, take-append-seam, take-at, drop-append-le, take-append-le}
 use Rattle.arith.proofs.Results.{no-some, some-is}
-use Rattle.spirv.specs.Decl.{Decl}
-use Rattle.spirv.specs.Rows.{encodeRow}
+use Rattle.spirv.specs.Decl.{Decl, isStruct}
+use Rattle.spirv.specs.Rows.{encodeRow, structRow, plainRow, decodeRow, rowAt, OfDeclaration}
 use Rattle.spirv.specs.Reduced.{declRow, givenWords, reduced}
-use Rattle.spirv.proofs.Rows.{row-length}
+use Rattle.spirv.proofs.Rows.{row-length, rows-read-back}
 use Rattle.sheet.specs.Sheet.{memberCount}
-use Rattle.sheet.specs.Tables.{over, typesWords, membersWords, offsetsWords, spanStart, Spans}
+use Rattle.sheet.specs.Tables.{over, typesWords, membersWords, offsetsWords, spanStart, Spans, ReadBack}
 
 -- stores at the front
 pub front : (l w : List ℕ) → length w ≤ length l → sets l 0 w ≡ over w l
@@ -109,4 +110,38 @@ spans ds = record {
   members = members-at ds;
   given = given-at ds;
   rows = λ t d e. let z : 0 + spanStart ds t ≡ spanStart ds t = omega arith in rw z at (rows-at 0 ds t d e);
+}
+
+-- ---- read back
+
+-- a part of the first of two lists
+part-first : (a b : List ℕ) (k n : ℕ) → k + n ≤ length a → take n (drop k (a ++ b)) ≡ take n (drop k a)
+part-first a b k n h =
+    let i : k ≤ length a = omega arith in
+    let j : n ≤ length (drop k a) = omega (arith, length-drop k a) in
+    rw (drop-append-le k a b i, take-append-le n (drop k a) b j)
+
+some-below : (ds : List Decl) (t : ℕ) (d : Decl) → getElem? ds t ≡ some d → t < length ds
+some-below [] t d e = absurd (no-type t e)
+some-below (c ∷ ds) zero d e = omega arith
+some-below (c ∷ ds) (suc t) d e = let h = some-below ds t d e in omega arith
+
+-- a row of a declaration
+of-declaration : (start : ℕ) (d : Decl) → OfDeclaration (declRow start d)
+unfolding declRow
+of-declaration start d = go (isStruct (d .type)) refl
+  where
+    go : (b : Bool) → isStruct (d .type) ≡ b → OfDeclaration (cond b (structRow (d .type) start (length (d .members)) (reduced (d .decorations) .refusal) (length (reduced (d .decorations) .offsets))) (plainRow (d .type)))
+    go true e = record { plain = λ f. absurd (true≢false (sym e ∙ f)) }
+    go false e = record { plain = λ f. refl }
+
+pub read-back : (ds : List Decl) → ReadBack ds
+unfolding rowAt
+read-back ds = record {
+  row = λ old t d e.
+      let h = some-below ds t d e in
+      ap decodeRow (part-first (typesWords 0 ds) (drop (length (typesWords 0 ds)) old) (6 * t) 6 (omega (arith, types-length 0 ds)) ∙ spans ds .rows t d e)
+      ∙ rows-read-back .back (declRow (spanStart ds t) d) (of-declaration (spanStart ds t) d);
+  members = λ old t d e. part-first (membersWords ds) (drop (length (membersWords ds)) old) (spanStart ds t) (length (d .members)) (inside ds t d e) ∙ members-at ds t d e;
+  given = λ old t d e. part-first (offsetsWords ds) (drop (length (offsetsWords ds)) old) (spanStart ds t) (length (d .members)) (omega (arith, inside ds t d e, members-length ds, offsets-length ds)) ∙ given-at ds t d e;
 }

@@ -1,14 +1,15 @@
 -- The tables of a sheet: lent lists of 32-bit words. Each list is the words of the sheet, followed by what it held before.
 use Prim.Native.Nat.{ℕ, _+_, _*_, _≤_, _<_}
 use mathlib.Core.Path.{_≡_}
-use mathlib.Core.Bool.{Bool, true, _&&_}
+use mathlib.Core.Bool.{Bool, _&&_}
 use mathlib.Core.List.{List, [], _∷_, _++_}
 use mathlib.Core.Option.{some}
 use lib.Dec.{leb}
 use lib.ListN.{length, take, drop, getElem?}
-use Rattle.arith.specs.Refusals.{Result, ok, refused, _>>=_, _>>_, refuse_unless_, short-list}
-use Rattle.spirv.specs.Decl.{Decl, isStruct}
-use Rattle.spirv.specs.Rows.{flagWord, encodeRow}
+use Rattle.arith.specs.Refusals.{Result, ok, _>>=_, _>>_, refuse_unless_, short-list}
+use Rattle.spirv.specs.Decl.{Decl}
+use Rattle.spirv.specs.declared.RowReading.the-variants.{Row}
+use Rattle.spirv.specs.Rows.{flagWord, encodeRow, rowAt}
 use Rattle.spirv.specs.Reduced.{declRow, givenWords}
 use Rattle.shapes.specs.declared.LayoutConfig.{LayoutConfig}
 use Rattle.sheet.specs.Sheet.{Sheet, memberCount}
@@ -71,3 +72,11 @@ pub record Spans (ds : List Decl) : Type 0 where
   pub members : (t : ℕ) (d : Decl) → getElem? ds t ≡ some d → take (length (d .members)) (drop (spanStart ds t) (membersWords ds)) ≡ d .members
   pub given : (t : ℕ) (d : Decl) → getElem? ds t ≡ some d → take (length (d .members)) (drop (spanStart ds t) (offsetsWords ds)) ≡ givenWords d
   pub rows : (t : ℕ) (d : Decl) → getElem? ds t ≡ some d → take 6 (drop (6 * t) (typesWords 0 ds)) ≡ encodeRow (declRow (spanStart ds t) d)
+
+-- ---- read back
+
+-- whatever follows the tables of these types, each type is read back: its row, its members and their given offsets
+pub record ReadBack (ds : List Decl) : Type 0 where
+  pub row : (old : List ℕ) (t : ℕ) (d : Decl) → getElem? ds t ≡ some d → rowAt (over (typesWords 0 ds) old) t ≡ Row (declRow (spanStart ds t) d)
+  pub members : (old : List ℕ) (t : ℕ) (d : Decl) → getElem? ds t ≡ some d → take (length (d .members)) (drop (spanStart ds t) (over (membersWords ds) old)) ≡ d .members
+  pub given : (old : List ℕ) (t : ℕ) (d : Decl) → getElem? ds t ≡ some d → take (length (d .members)) (drop (spanStart ds t) (over (offsetsWords ds) old)) ≡ givenWords d

@@ -3,3 +3,4 @@ pub mod Filled
 pub mod Examples
 pub mod Words
 pub mod Rows
+pub mod RowExamples

@@ -1,10 +1,10 @@
 -- Rows and indices are read back from their words, and no other words are read as one. Assumes nothing.
-use Prim.Native.Nat.{ℕ, _+_, _*_, _≤_, _<_}
+use Prim.Native.Nat.{ℕ, _+_, _*_, _≤_}
 use native.Mathlib.Omega.{arith}
 use mathlib.Core.Path.{_≡_, refl, sym, ap, _∙_}
 use mathlib.Core.Bool.{Bool, true, false, cond}
 use mathlib.Core.List.{List, [], _∷_, _++_, append-assoc}
-use borrow.Author.Tests.{eqb-true, eqb-false, ne-eqb}
+use borrow.Author.Tests.{eqb-true}
 use lib.Dec.{eqb}
 use lib.ListN.{length, getD, take, drop}
 use lib.Seq.{sets, sets-eq, take-at, drop-at, length-take-le}
@@ -13,15 +13,13 @@ use Rattle.spirv.specs.declared.Stride.the-variants.{Decorated, Undecora
 use Rattle.spirv.specs.declared.SpvType.{SpvType}
 use Rattle.spirv.specs.declared.SpvType.the-variants as spv
 use Rattle.spirv.specs.declared.DeclRow.{DeclRow}
-use Rattle.spirv.specs.declared.RowReading.{RowReading}
 use Rattle.spirv.specs.declared.RowReading.the-variants as row
 use Rattle.spirv.specs.declared.Index.{Index}
 use Rattle.spirv.specs.declared.Index.the-variants.{Known, Unknown}
-use Rattle.spirv.specs.declared.IndexReading.{IndexReading}
 use Rattle.spirv.specs.declared.IndexReading.the-variants as index
 use Rattle.spirv.specs.Decl.{isStruct}
 use Rattle.spirv.specs.Rows.{sameWords, typeWords, encodeRow, typeOf, structRow, plainRow, rowOf, rowOfWords, decodeRow, rowAt, OfDeclaration, RowsReadBack, encodeIndex, indexOf, decodeIndex, indexAt, IndicesReadBack}
-use Rattle.spirv.proofs.Words.{same-is, same-self, other-length, cut-short}
+use Rattle.spirv.proofs.Words.{same-is, same-self, other-length}
 
 -- ---- rows
 

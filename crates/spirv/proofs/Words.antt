@@ -2,13 +2,13 @@
 use Prim.Native.Nat.{ℕ, suc, _+_, _-_, _≤_, _<_}
 use native.Mathlib.Omega.{arith}
 use native.Mathlib.Numerals.{add-one}
-use mathlib.Core.Path.{_≡_, refl, sym, ap, _∙_}
-use mathlib.Core.Bool.{Bool, true, false, cond, _&&_}
+use mathlib.Core.Path.{_≡_, refl, sym, ap}
+use mathlib.Core.Bool.{Bool, true, false, _&&_}
 use mathlib.Core.List.{List, [], _∷_, _++_}
 use borrow.Author.Tests.{eq-eqb, ne-eqb, eqb-true}
 use lib.Dec.{eqb}
 use lib.ListN.{length, getD, take, drop, set, length-set, length-take, length-drop}
-use lib.Seq.{sets, set-out, take-suc, take-all, length-take-le, drop-cons, sets-eq}
+use lib.Seq.{sets, set-out, take-suc, length-take-le, drop-cons}
 use Rattle.arith.proofs.Results.{first-true, second-true}
 use Rattle.spirv.specs.Rows.{sameWords}
 

@@ -1,12 +1,11 @@
 -- A D line behind others: the last struct's decorations, its row and the order. Assumes nothing.
-use Prim.Native.Nat.{ℕ, suc, _+_}
-use native.Mathlib.Omega.{arith}
-use mathlib.Core.Path.{_≡_, refl, sym, ap, _∙_}
+use Prim.Native.Nat.{ℕ, _+_}
+use mathlib.Core.Path.{_≡_, refl}
 use mathlib.Core.Bool.{Bool, true, false, cond}
 use mathlib.Core.List.{List, [], _∷_, _++_}
 use lib.Dec.{eqb, ltb}
 use lib.ListN.{length, length-append}
-use Rattle.arith.specs.Refusals.{Result, ok, refused, _>>=_, _>>_, refuse_unless_, misread}
+use Rattle.arith.specs.Refusals.{ok, refused, _>>=_, _>>_, refuse_unless_, misread}
 use Rattle.spirv.specs.declared.Decoration.{Decoration}
 use Rattle.spirv.specs.declared.Decoration.the-variants.{RowMajor, Offset}
 use Rattle.spirv.specs.declared.MemberDecoration.{MemberDecoration}
@@ -14,7 +13,7 @@ use Rattle.spirv.specs.declared.SpvType.{SpvType}
 use Rattle.spirv.specs.Decl.{Decl, isStruct, before}
 use Rattle.spirv.specs.Rows.{structRow}
 use Rattle.spirv.specs.Reduced.{Reduction, takenIn, reducedBy, reducedFrom, reduced, declRow}
-use Rattle.sheet.specs.Sheet.{rises, decorateLast, memberCount}
+use Rattle.sheet.specs.Sheet.{rises, decorateLast}
 use Rattle.tally.specs.Counts.{rowBy}
 
 -- a declaration with a decoration more

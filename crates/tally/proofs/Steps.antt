@@ -1,14 +1,14 @@
 -- The counts of a sheet that is being read, and what a line does to both. Assumes nothing.
-use Prim.Native.Nat.{ℕ, suc, _+_, _≤_}
+use Prim.Native.Nat.{ℕ, _+_, _≤_}
 use native.Mathlib.Omega.{arith}
 use mathlib.Core.Path.{_≡_, refl, ap, _∙_, subst}
 use mathlib.Core.Bool.{Bool, true, false, cond}
 use mathlib.Core.List.{List, [], _∷_, _++_}
-use mathlib.Core.Option.{Option, none, some}
+use mathlib.Core.Option.{Option, some}
 use borrow.Author.Tests.{leb-true}
 use lib.Dec.{leb, ltb, eqb}
 use lib.ListN.{length, length-append}
-use Rattle.arith.specs.Refusals.{Result, ok, refused, _>>=_, _>>_, refuse_unless_, misread, oversize, bad-setting}
+use Rattle.arith.specs.Refusals.{ok, refused, _>>=_, _>>_, refuse_unless_, misread, oversize, bad-setting}
 use Rattle.spirv.specs.declared.Decoration.{Decoration}
 use Rattle.spirv.specs.declared.Decoration.the-variants.{RowMajor, Offset}
 use Rattle.spirv.specs.declared.MemberDecoration.{MemberDecoration}
@@ -21,18 +21,17 @@ use Rattle.spirv.specs.Reduced.{reduced, declRow}
 use Rattle.shapes.specs.declared.LayoutConfig.{LayoutConfig}
 use Rattle.sheet.specs.Fields.{readType, readAll}
 use Rattle.sheet.specs.Grammar.{Line, Setting, Declared, Decorated, Asked}
-use Rattle.sheet.specs.Sheet.{Sheet, memberCount, indexCount, takesDecoration, rises, decorateLast, firstLine, goodSetting, nextLine, formed, max-types, max-members, max-indices}
+use Rattle.sheet.specs.Sheet.{Sheet, memberCount, indexCount, takesDecoration, rises, firstLine, goodSetting, nextLine, formed, max-types, max-members, max-indices}
 use Rattle.sheet.proofs.Types.{members-append}
 use Rattle.fields.specs.Pieces.{behind}
 use Rattle.lines.specs.declared.Ask.{Ask}
 use Rattle.lines.specs.declared.Ask.the-variants as ask
 use Rattle.lines.specs.declared.SheetLine.{SheetLine}
 use Rattle.lines.specs.declared.SheetLine.the-variants as says
-use Rattle.lines.specs.Says.{countOf, questionOf, Declares, Asks, Says}
+use Rattle.lines.specs.Says.{countOf, questionOf, Asks, Says}
 use Rattle.tally.specs.declared.Place.{Place}
 use Rattle.tally.specs.declared.Place.the-variants.{Closed, Open, After}
 use Rattle.tally.specs.declared.Tally.{Tally}
-use Rattle.tally.specs.declared.Step.{Step}
 use Rattle.tally.specs.declared.Step.the-variants.{Next, Refused}
 use Rattle.tally.specs.Counts.{rowWith, rowTaking, rowBy, readIn, isOpen, placed, openedBy, declaredBy, decoratedBy, askedBy, judged, setBy, judgedFirst, startTally}
 use Rattle.tally.proofs.Decorated.{decorated, decorate-last, rises-last, row-decorated}

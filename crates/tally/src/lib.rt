@@ -11,7 +11,7 @@ ghost use Prim.Native.Nat.{_≤_};
 ghost use Rattle.spirv.specs.Decl.{before, isStruct, decorationNumber, decorationValue};
 ghost use Rattle.sheet.specs.Sheet.{goodSetting};
 ghost use Rattle.lines.specs.Says.{countOf};
-ghost use Rattle.tally.specs.Counts.{rowWith, rowBy, placed, Small, openedBy, startTally, declaredBy, askedBy, decoratedBy, afterBy, judged, setBy, judgedFirst};
+ghost use Rattle.tally.specs.Counts.{rowWith, rowBy, placed, Small, openedBy, startTally, declaredBy, askedBy, decoratedBy, judged, setBy, judgedFirst};
 
 // What stands above a line: a struct, a decoration of one, or another line. A struct's row has what its D lines come to.
 pub enum Place {

@@ -1,11 +1,9 @@
 -- `lines::put_indices` meets its contract. The loop's invariant: the indices up to the field that ends at e are written.
 use borrow.Author.Needs.{needs}
-use Prim.Native.Nat.{ℕ, _-_, _*_, _≤_}
+use Prim.Native.Nat.{_-_, _*_, _≤_}
 use native.Mathlib.Omega.{arith}
-use mathlib.Core.Path.{_≡_, refl, sym, _∙_}
-use mathlib.Core.List.{_∷_, []}
+use mathlib.Core.Path.{_∙_}
 use lib.ListN.{length}
-use lib.Seq.{sets}
 use Rattle.fields.specs.Took.{Got}
 use Rattle.spirv.specs.Rows.{encodeIndex}
 use Rattle.spirv.proofs.Rows.{index-length}

@@ -1,11 +1,10 @@
 -- `lines::put_members` meets its contract. The loop's invariant: the members up to the field that ends at e are written.
 use borrow.Author.Needs.{needs}
-use Prim.Native.Nat.{ℕ, _-_, _*_, _≤_}
+use Prim.Native.Nat.{ℕ, _-_, _≤_}
 use native.Mathlib.Omega.{arith}
-use mathlib.Core.Path.{_≡_, refl, sym, _∙_}
+use mathlib.Core.Path.{refl, _∙_}
 use mathlib.Core.List.{_∷_, []}
 use lib.ListN.{length}
-use lib.Seq.{sets}
 use Rattle.fields.specs.Took.{Got}
 use Rattle.sheet.specs.Fields.{readType}
 use Rattle.lines.proofs.Left.{Filled, filled-none, filled-more, filled-lost, filled-all, words-each}

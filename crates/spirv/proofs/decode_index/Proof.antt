@@ -1,6 +1,6 @@
 -- `spirv::decode_index` meets its contract.
 use borrow.Author.Tests.{eq-eqb, ne-eqb}
-use mathlib.Core.Path.{sym, _∙_}
+use mathlib.Core.Path.{sym}
 use Rattle.spirv.proofs.Rows.{index-short, index-long}
 use borrow.Author.Needs.{needs}
 use Rattle.spirv.proofs.decode_index.Statement.{statement}

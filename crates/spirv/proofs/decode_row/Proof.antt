@@ -1,5 +1,5 @@
 -- `spirv::decode_row` meets its contract.
-use mathlib.Core.Path.{sym, ap, _∙_}
+use mathlib.Core.Path.{sym, _∙_}
 use Rattle.spirv.specs.Rows.{decodeRow, rowOfWords}
 use Rattle.spirv.proofs.Rows.{row-short}
 use borrow.Author.Needs.{needs}
