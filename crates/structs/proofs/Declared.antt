@@ -11,7 +11,7 @@ use borrow.Author.Tests.{ne-eqb, eqb-true, eqb-false, le-leb, leb-true}
 use Rattle.arith.specs.Refusals.{Result, ok, refused, _>>=_, _>>_, refuse_unless_, offsets-missing}
 use Rattle.arith.proofs.Results.{went, value-is, passed, not-refused, first-true}
 use Rattle.spirv.specs.Decl.{Decl}
-use Rattle.spirv.specs.Reduced.{Reduction, reduced, declRow, givenWords}
+use Rattle.spirv.specs.Reduced.{Reduction, refusing, reduced, declRow, givenWords}
 use Rattle.spirv.specs.Rows.{structRow}
 use Rattle.spirv.specs.declared.DeclRow.{DeclRow}
 use Rattle.spirv.specs.declared.SpvType.{SpvType}
@@ -73,6 +73,9 @@ module _ (cfg : LayoutConfig) (ms : List MemTypeLayout) (block : Bool) (types : 
       by false false e f =
           rw (not-one-each cfg gs ms (eqb-false (length gs) 0 e) (λ k. eqb-false (length gs) (length types) f (k ∙ l)))
 
+same-reduction : (r : Reduction) (gs : List ℕ) → r .refusal ≡ 0 → r .offsets ≡ gs → r ≡ refusing gs 0
+same-reduction r gs h k = ap (λ (n : ℕ). refusing (r .offsets) n) h ∙ ap (λ (l : List ℕ). refusing l 0) k
+
 -- the same declaration and row, from the members' layouts on
 module _ (cfg : LayoutConfig) (block : Bool) (d : Decl) (start : ℕ) (given : List ℕ) (there : spanOf given start (length (d .members)) ≡ givenWords d) where
   abbrev row : DeclRow
@@ -89,8 +92,11 @@ module _ (cfg : LayoutConfig) (block : Bool) (d : Decl) (start : ℕ) (given : L
           ≡ ((decorationsOf row >> finish-row cfg ms block (d .members) (spanOf given start (row .read))) >>= λ s. ok (layoutWith block (d .members) s))
       by (ok gs) e =
           let n = length (d .members) in
-          let w : spanOf given start n ≡ take n (gs ++ replicate n 0) = there ∙ ap (λ (q : Reduction). take n (q .offsets ++ replicate n 0)) (reduced-given (d .decorations) gs e) in
-          rw (reduced-given (d .decorations) gs e) (of-given cfg ms block (d .members) (d .type) start given gs l w)
+          let q = reduced-given (d .decorations) gs e in
+          let w : spanOf given start n ≡ take n (gs ++ replicate n 0) = there ∙ ap (λ (l : List ℕ). take n (l ++ replicate n 0)) (q .offsets-are) in
+          of-given cfg ms block (d .members) (d .type) start given gs l w
+          ∙ ap (λ (x : Reduction). (decorationsOf (structRow (d .type) start n (x .refusal) (length (x .offsets))) >> finish-row cfg ms block (d .members) (spanOf given start (length (x .offsets)))) >>= λ s. ok (layoutWith block (d .members) s))
+          (sym (same-reduction (reduced (d .decorations)) gs (q .none-refused) (q .offsets-are)))
       by (refused n) e =
           let q = reduced-refused (d .decorations) n e in
           let z : reduced (d .decorations) .refusal ≡ 0 → ⊥ = λ k. q .some-refusal (sym (q .by) ∙ k) in
