@@ -2,3 +2,4 @@ pub mod Stays
 pub mod Onward
 pub mod Run
 pub mod Examples
+pub mod Going

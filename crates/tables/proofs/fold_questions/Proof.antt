@@ -1,22 +1,12 @@
 -- `tables::fold_questions` is safe and ends. Assumes nothing.
-use Prim.Native.Nat.{ℕ, _-_, _≤_, _<_}
+use Prim.Native.Nat.{_-_, _≤_}
 use native.Mathlib.Omega.{arith}
-use mathlib.Core.Path.{_≡_, subst, sym}
-use mathlib.Core.List.{List}
+use mathlib.Core.Path.{_≡_}
 use lib.ListN.{length}
-use Rattle.lines.specs.declared.Ask.{Ask}
-use Rattle.asking.specs.declared.NextQuestion.{NextQuestion}
-use Rattle.asking.specs.declared.NextQuestion.the-variants.{Question}
-use Rattle.asking.specs.Questions.{Steps, Next}
+use Rattle.asking.proofs.Going.{went-on}
 use borrow.Author.Needs.{needs}
 use Rattle.tables.proofs.fold_questions.Statement.{statement}
 use Rattle.tables.proofs.fold_questions.Tie as tie
-
--- a question is found behind the last, within the sheet
-went-on : (sheet : List ℕ) (at : ℕ) (r : NextQuestion) (a : Ask) (n : ℕ) (old new : List ℕ) → Steps sheet at r old new → r ≡ Question a n → (at < n) × (n ≤ length sheet)
-went-on sheet at r a n old new s e =
-    let x : Next sheet at a n old new = subst (λ (y : NextQuestion). Steps sheet at y old new) e s in
-    (x .later, x .within)
 
 abbrev Inv-loop : tie.InvT-loop
 Inv-loop sheet indices₀ at₀ count₀ h₀ indices at count h = (count ≤ at) × (at ≤ length sheet) × (length indices ≡ length indices₀)
