@@ -11,9 +11,12 @@ use Rattle.spirv.specs.declared.ChainOp.{ChainOp}
 use Rattle.spirv.specs.declared.ChainOp.the-variants.{AccessChain, InBoundsAccessChain, PtrAccessChain, InBoundsPtrAccessChain}
 use Rattle.shapes.specs.Shapes as shapes
 use Rattle.shapes.specs.Rows.{answerAt, flat}
+use Rattle.shapes.specs.Spans.{answerOver}
 use Rattle.shapes.specs.declared.Answer.the-variants.{Laid}
 use Rattle.shapes.specs.declared.TypeLayout.{TypeLayout}
 use Rattle.sheet.specs.Sheet.{Sheet, pointeeIn}
+use Rattle.layout.specs.Layouts.{layoutInRoom}
+use Rattle.values.specs.Values.{heldIn}
 use Rattle.laid.specs.Statements.{Tables, answersOf, offsetsOf}
 use Rattle.components.specs.Found.{answersIn}
 use Rattle.lower.specs.declared.QPtrOp.{QPtrOp}
@@ -25,6 +28,16 @@ use Rattle.promise.specs.Vulkan.{Vk, covered}
 use Rattle.promise.specs.Aligned.{Aligned}
 use Rattle.promise.specs.Meaning.{Values}
 use Rattle.promise.specs.Statements.{Same}
+
+-- ---- T as values
+
+abbrev pub ValuesOfSheet : Type 0
+ValuesOfSheet =
+    (s : Sheet) (types members given offsets rest : List ℕ) → Tables (s .types) types members given (length offsets) → (room t : ℕ)
+    → answerOver (offsetsOf s types members given offsets) members (heldIn room (offsetsOf s types members given offsets) (answerAt (flat (answersOf s types members given offsets) ++ rest) (length (s .types)) t))
+    ≡ layoutInRoom room s t
+
+-- ---- chains
 
 -- 65 and 66 start from the pointee
 abbrev pub FromPointee : ChainOp → Type 0
