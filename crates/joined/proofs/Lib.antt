@@ -1,3 +1,4 @@
 pub mod Chains
 pub mod Kept
 pub mod Values
+pub mod Reading

@@ -14,7 +14,9 @@ use Rattle.shapes.specs.Rows.{answerAt, flat}
 use Rattle.shapes.specs.Spans.{answerOver}
 use Rattle.shapes.specs.declared.Answer.the-variants.{Laid}
 use Rattle.shapes.specs.declared.TypeLayout.{TypeLayout}
-use Rattle.sheet.specs.Sheet.{Sheet, pointeeIn}
+use Rattle.sheet.specs.Sheet.{Sheet, pointeeIn, memberCount}
+use Rattle.reading.specs.declared.SheetAnswer.{SheetAnswer}
+use Rattle.reading.specs.Reads.{ReadsInto, into}
 use Rattle.layout.specs.Layouts.{layoutInRoom}
 use Rattle.values.specs.Values.{heldIn}
 use Rattle.laid.specs.Statements.{Tables, answersOf, offsetsOf}
@@ -28,6 +30,14 @@ use Rattle.promise.specs.Vulkan.{Vk, covered}
 use Rattle.promise.specs.Aligned.{Aligned}
 use Rattle.promise.specs.Meaning.{Values}
 use Rattle.promise.specs.Statements.{Same}
+
+-- ---- from bytes to tables
+
+-- where a sheet is read into lent lists, these hold its types; there is room for offsets where each member has a place
+abbrev pub TablesOfReading : Type 0
+TablesOfReading =
+    (input : List ℕ) (s : Sheet) (r : SheetAnswer) (se ty me gi se′ ty′ me′ gi′ : List ℕ) → ReadsInto input r se ty me gi se′ ty′ me′ gi′ → into input se ty me gi ≡ ok s
+    → (room : ℕ) → memberCount (s .types) ≤ room → Tables (s .types) ty′ me′ gi′ room
 
 -- ---- T as values
 
