@@ -18,7 +18,7 @@ use Rattle.sheet.specs.Sheet.{Sheet}
 use Rattle.sheet.specs.Statements.{All}
 use Rattle.layout.specs.Arrays.{Answer, numberLayout, ArrayParams, lengthOrZero, hasZeroLength, strideWithout, arrayLayout, runtimeParams}
 use Rattle.layout.specs.Structs.{blockOr}
-use Rattle.layout.specs.Layouts.{Rule, ofSetting, ofWidth, ofElements, ofMembers, ofHandle, noLayout, ruleOf, byRule, layoutOf, answerIn, runtimeArrayIn}
+use Rattle.layout.specs.Layouts.{Rule, ofSetting, ofWidth, ofElements, ofMembers, ofHandle, noLayout, ruleOf, byRule, layoutOf, answerIn, runtimeArrayBy, runtimeArrayIn}
 use Rattle.layout.specs.Statements.{FieldOf, FieldsOf, ElementsOf, PartsOf, Parts, Handles, partTypes, RefersLower}
 use Rattle.layout.proofs.OfElements.{OfElements, ArrayIs, array-is}
 use Rattle.layout.proofs.OfMembers.{Laid, Ends, OfMembers, StructIs, struct-is, same-length, MemberIs, member-is}
@@ -80,7 +80,7 @@ module _ (s : Sheet) (below : ℕ → Answer) (kept : (u : ℕ) (m : TypeLayout)
   rule-parts d (noLayout n) l m c g = absurd (never g)
 
 pub parts : Parts
-unfolding layoutOf runtimeArrayIn
+unfolding layoutOf runtimeArrayBy
 parts s l m (t, of) c = ⊎-elim of-type of-array of
   where
     of-type : answerIn s t ≡ ok l → PartsOf s m (m .components)
@@ -96,7 +96,7 @@ block-no-array true m h n e = let z : _≡_ {A = ℕ} 0 1 = cc in omega arith
 block-no-array false m h n e = let z : _≡_ {A = ℕ} 0 1 = cc in omega arith
 
 pub handles : Handles
-unfolding layoutOf byRule numberLayout runtimeArrayIn
+unfolding layoutOf byRule numberLayout runtimeArrayBy
 handles s h n (t, of) = ⊎-elim of-type (of-array (answerIn s) (λ u x e. e) _) of
   where
     of-array : (below : ℕ → Answer) → ((u : ℕ) (m : TypeLayout) → below u ≡ ok m → answerIn s u ≡ ok m) → (p : ArrayParams)

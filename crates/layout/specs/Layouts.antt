@@ -64,8 +64,11 @@ unfolding layouts
 answerIn s t = getD (layouts (s .setting) (s .types)) t (refused misread)
 
 -- the undecorated runtime array of a type, from which 67 and 70 start
-unfoldable pub runtimeArrayIn : Sheet → ℕ → Answer
-runtimeArrayIn s t = arrayLayout (s .setting) (answerIn s) (runtimeParams (s .setting) t Undecorated)
+unfoldable pub runtimeArrayBy : LayoutConfig → (answer-of : ℕ → Answer) → ℕ → Answer
+runtimeArrayBy cfg answer-of t = arrayLayout cfg answer-of (runtimeParams cfg t Undecorated)
+
+abbrev pub runtimeArrayIn : Sheet → ℕ → Answer
+runtimeArrayIn s t = runtimeArrayBy (s .setting) (answerIn s) t
 
 -- ---- the question T: layout, 24
 

@@ -22,7 +22,7 @@ use Rattle.lower.specs.declared.QPtrOp.the-variants.{HandleArrayIndex, B
 use Rattle.lower.specs.declared.Pending.{Pending}
 use Rattle.lower.specs.declared.Pending.the-variants.{Empty, Waiting}
 use Rattle.lower.specs.Steps.{flush, merged, Field, fieldAt, fieldOf, Move, toField, boundOf, inBound, constantOffset, byConstant, toElement, toPart, move, lowerFrom}
-use Rattle.lower.specs.Chain.{startLayout, lowerChain}
+use Rattle.lower.specs.Chain.{startLayout, chainBy}
 use Rattle.lower.specs.Statements.{Accepted}
 
 -- ---- a field
@@ -190,11 +190,11 @@ pub record Begun (s : Sheet) (op : ChainOp) (ptr : ℕ) (is : List Index) (steps
   pub pointee : ℕ
   pub points : pointeeIn s ptr ≡ ok pointee
   pub layout : TypeLayout
-  pub laid : startLayout s op pointee ≡ ok layout
+  pub laid : startLayout (s .setting) (answerIn s) op pointee ≡ ok layout
   pub lowered : lowerFrom (answerIn s) layout Empty is ≡ ok steps
 
 pub begun : (s : Sheet) (op : ChainOp) (ptr : ℕ) (is : List Index) (steps : List QPtrOp) → Accepted s op ptr is steps → Begun s op ptr is steps
-unfolding lowerChain
+unfolding chainBy
 begun s op ptr is steps h =
     let t = went _ _ h in
     let l = went _ _ (t .rest) in

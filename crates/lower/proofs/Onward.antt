@@ -40,7 +40,7 @@ onward s (Handle (Buffer m)) o i p a h =
 onward s (HandleArray k n) o i p a h = let (elem, e) = handles s k n o in subst (IsLayoutIn s) (sym (h .2)) (elem, inl e)
 onward s (Concrete m) o i p a h = let e = part-onward s m (m .components) (parts s (Concrete m) m o refl) i p a h in (e .type, inl (e .laid))
 
-pub start-in : (s : Sheet) (op : ChainOp) (t : ℕ) (l : TypeLayout) → startLayout s op t ≡ ok l → IsLayoutIn s l
+pub start-in : (s : Sheet) (op : ChainOp) (t : ℕ) (l : TypeLayout) → startLayout (s .setting) (answerIn s) op t ≡ ok l → IsLayoutIn s l
 unfolding startLayout
 start-in s AccessChain t l h = (t, inl h)
 start-in s InBoundsAccessChain t l h = (t, inl h)

@@ -14,7 +14,7 @@ use Rattle.shapes.specs.Shapes.{Components, Scalar, Elements, Fields, HandleLay
 use Rattle.sheet.specs.Sheet.{Sheet, pointeeIn}
 use Rattle.layout.specs.Layouts.{answerIn}
 use Rattle.lower.specs.Steps.{Field, fieldAt}
-use Rattle.lower.specs.Other.{bufferOf, memberOf, runtimeStride, strideOfPart, ArrayLength, arrayLength, fixedMemory, localVariable}
+use Rattle.lower.specs.Other.{bufferOf, memberOf, runtimeStride, strideOfPart, ArrayLength, lengthIn, lengthBy, arrayLength, fixedMemory, variableBy, localVariable}
 use Rattle.lower.specs.Statements.{LengthOf, ArrayLengths, FixedPointee, OtherPointee, LocalVariables}
 use Rattle.lower.proofs.Moves.{FieldIs, field-is, is-field}
 
@@ -60,7 +60,7 @@ runtime-is (Concrete m) stride h = by (m .components) refl h
     by (Fields os ts) e g = absurd (never g)
 
 length-of : (s : Sheet) (ptr member : ℕ) (a : ArrayLength) → arrayLength s ptr member ≡ ok a → LengthOf s ptr member a
-unfolding arrayLength
+unfolding lengthBy lengthIn
 length-of s ptr member a h =
     let t = went _ _ h in
     let l = went _ _ (t .rest) in
@@ -91,7 +91,7 @@ length-of s ptr member a h =
 -- ---- and back
 
 is-length : (s : Sheet) (ptr member : ℕ) (a : ArrayLength) → LengthOf s ptr member a → arrayLength s ptr member ≡ ok a
-unfolding arrayLength _>>=_ _>>_ bufferOf memberOf strideOfPart runtimeStride refuse_unless_
+unfolding lengthBy lengthIn _>>=_ _>>_ bufferOf memberOf strideOfPart runtimeStride refuse_unless_
 is-length s ptr member a h =
     let f : fieldAt (h .offsets) (h .types) member ≡ ok record { offset = a .offset; type = h .type } = is-field _ _ _ _ record { at = h .at; of-type = h .of-type } in
     rw (h .points) (rw (h .is-buffer) (rw (h .fields) (rw f (rw (h .laid) (rw (h .elements) (rw (eq-eqb _ _ (h .last)) refl))))))
@@ -129,7 +129,7 @@ of-other (HandleArray k n) f = refl
 of-other (Concrete k) f = let z = f k refl in rw (ne-eqb (dynOf k) 0 (λ e. omega arith))
 
 pub local-variables : LocalVariables
-unfolding localVariable fixedMemory _>>=_
+unfolding variableBy fixedMemory _>>=_
 local-variables s ptr = (
   λ mem. (λ h. forth mem h, λ h. rw (h .points) (rw (h .laid) (rw (h .fixed) (ap (λ (x : MemLayout). ok (some x)) (h .is))))),
   (λ h. no-forth h, λ h. rw (h .points) (rw (h .laid) (ap (λ (x : Option MemLayout). ok x) (of-other (h .layout) (h .not-fixed))))),

@@ -7,6 +7,7 @@ use Rattle.arith.specs.Refusals.{Result, ok, refused, _>>=_, _>>_, refuse_unles
 use Rattle.shapes.specs.declared.MemLayout.{MemLayout}
 use Rattle.shapes.specs.Shapes.{Components, Scalar, Elements, Fields, Opaque, Buffer, MemTypeLayout, TypeLayout, Handle, HandleArray, Concrete, sizeOf, runtimeSized}
 use Rattle.sheet.specs.Sheet.{Sheet, pointeeIn}
+use Rattle.layout.specs.Arrays.{Answer}
 use Rattle.layout.specs.Layouts.{answerIn}
 use Rattle.lower.specs.Steps.{Field, fieldAt}
 
@@ -42,16 +43,26 @@ pub record ArrayLength : Type 0 where
   pub offset : ℕ
   pub stride : ℕ
 
-unfoldable pub arrayLength : Sheet → (ptr member : ℕ) → Result ArrayLength
-arrayLength s ptr member = do
-  t ← pointeeIn s ptr
-  l ← answerIn s t
-  buffer ← bufferOf l
+-- of a buffer's member
+unfoldable pub lengthIn : (answer-of : ℕ → Answer) → (buffer : MemTypeLayout) → (member : ℕ) → Result ArrayLength
+lengthIn answer-of buffer member = do
   f ← memberOf (buffer .components) member
-  part ← answerIn s (f .type)
+  part ← answer-of (f .type)
   stride ← strideOfPart part
   refuse not-last unless eqb (sizeOf buffer) (f .offset)
   ok record { offset = f .offset; stride = stride }
+
+-- by what a pointer points to and what a type answers
+unfoldable pub lengthBy : (pointee-of : ℕ → Result ℕ) → (answer-of : ℕ → Answer) → (ptr member : ℕ) → Result ArrayLength
+lengthBy pointee-of answer-of ptr member = do
+  t ← pointee-of ptr
+  l ← answer-of t
+  buffer ← bufferOf l
+  lengthIn answer-of buffer member
+
+-- by what the sheet says
+abbrev pub arrayLength : Sheet → (ptr member : ℕ) → Result ArrayLength
+arrayLength s ptr member = lengthBy (pointeeIn s) (answerIn s) ptr member
 
 -- ---- local variable
 
@@ -61,8 +72,11 @@ fixedMemory (Handle h) = none
 fixedMemory (HandleArray h len) = none
 fixedMemory (Concrete m) = cond (runtimeSized m) none (some (m .mem .«fixed_base»))
 
-unfoldable pub localVariable : Sheet → (ptr : ℕ) → Result (Option MemLayout)
-localVariable s ptr = do
-  t ← pointeeIn s ptr
-  l ← answerIn s t
+unfoldable pub variableBy : (pointee-of : ℕ → Result ℕ) → (answer-of : ℕ → Answer) → (ptr : ℕ) → Result (Option MemLayout)
+variableBy pointee-of answer-of ptr = do
+  t ← pointee-of ptr
+  l ← answer-of t
   ok (fixedMemory l)
+
+abbrev pub localVariable : Sheet → (ptr : ℕ) → Result (Option MemLayout)
+localVariable s ptr = variableBy (pointeeIn s) (answerIn s) ptr

@@ -10,21 +10,21 @@ use Rattle.arith.specs.Refusals.{Result, ok, refused, field-outside}
 use Rattle.arith.specs.Numbers.{max-i32, signed}
 use Rattle.lower.specs.Steps.{Field, fieldAt, fieldOf}
 
-field-there : (os ts : List ℕ) (n : ℕ) → n < length os → n < length ts → fieldAt os ts n ≡ ok record { offset = getD os n 0; type = getD ts n 0 }
+pub field-there : (os ts : List ℕ) (n : ℕ) → n < length os → n < length ts → fieldAt os ts n ≡ ok record { offset = getD os n 0; type = getD ts n 0 }
 unfolding fieldAt
 field-there [] ts n h g = absurd (omega arith)
 field-there (o ∷ os) [] n h g = absurd (omega arith)
 field-there (o ∷ os) (t ∷ ts) zero h g = refl
 field-there (o ∷ os) (t ∷ ts) (suc n) h g = field-there os ts n (omega arith) (omega arith)
 
-no-offset : (os ts : List ℕ) (n : ℕ) → length os ≤ n → fieldAt os ts n ≡ refused field-outside
+pub no-offset : (os ts : List ℕ) (n : ℕ) → length os ≤ n → fieldAt os ts n ≡ refused field-outside
 unfolding fieldAt
 no-offset [] ts n h = refl
 no-offset (o ∷ os) [] n h = refl
 no-offset (o ∷ os) (t ∷ ts) zero h = absurd (omega arith)
 no-offset (o ∷ os) (t ∷ ts) (suc n) h = no-offset os ts n (omega arith)
 
-no-type : (os ts : List ℕ) (n : ℕ) → length ts ≤ n → fieldAt os ts n ≡ refused field-outside
+pub no-type : (os ts : List ℕ) (n : ℕ) → length ts ≤ n → fieldAt os ts n ≡ refused field-outside
 unfolding fieldAt
 no-type [] ts n h = refl
 no-type (o ∷ os) [] n h = refl

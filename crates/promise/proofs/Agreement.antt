@@ -17,7 +17,7 @@ use Rattle.shapes.specs.Shapes.{Components, Scalar, Elements, Fields, HandleLay
 use Rattle.sheet.specs.Sheet.{Sheet, declIn}
 use Rattle.layout.specs.Arrays.{Answer, numberLayout, ArrayParams, lengthOrZero, arrayLayout, vectorParams, fixedParams, runtimeParams}
 use Rattle.layout.specs.Structs.{blockOr, structLayout}
-use Rattle.layout.specs.Layouts.{ruleOf, byRule, layoutOf, answerIn, runtimeArrayIn}
+use Rattle.layout.specs.Layouts.{ruleOf, byRule, layoutOf, answerIn, runtimeArrayBy}
 use Rattle.layout.specs.Statements.{IsLayoutIn}
 use Rattle.layout.proofs.OfElements.{ArrayIs, array-is}
 use Rattle.layout.proofs.OfMembers.{struct-is}
@@ -129,7 +129,7 @@ module _ (s : Sheet) where
     by-type d spv.Unsupported l g = absurd (never g)
 
   pub agrees : (w : Walked) (l : TypeLayout) → layoutAt s w ≡ ok l → Agrees (kindOf s w) l
-  unfolding layoutAt kindOf layoutOf runtimeArrayIn runtimeParams
+  unfolding layoutAt kindOf layoutOf runtimeArrayBy runtimeParams
   agrees (typeNo t) l h =
       let i = laid-in s t l h in
       subst (λ (r : Result Decl). Agrees (kindOfDecl s r) l) (sym (i .is-declared)) (by-type (i .below) (i .kept) (i .decl) (i .decl .type) l (sym (i .made) ∙ h))

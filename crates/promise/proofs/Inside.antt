@@ -209,6 +209,6 @@ inside s op ptr is steps h v walks w m x y d r =
     let b = begun s op ptr is steps h in
     let same : b .pointee ≡ walks .pointee = value-is (sym (b .points) ∙ walks .points) in
     let at = startType op (walks .pointee) in
-    let laid : layoutAt s at ≡ ok (b .layout) = start-laid s op (walks .pointee) ∙ ap (startLayout s op) (sym same) ∙ b .laid in
+    let laid : layoutAt s at ≡ ok (b .layout) = start-laid s op (walks .pointee) ∙ ap (startLayout (s .setting) (answerIn s) op) (sym same) ∙ b .laid in
     let st = all-stand s v is (startBy (kindOf s at) at) (walks .reached) (start-stands s at (b .layout) laid (agrees s at (b .layout) laid)) r (walks .walked) in
     st .lies w m x y d .inside

@@ -178,7 +178,7 @@ module _ (s : Sheet) (v : Values) where
 
 -- ---- from the start
 
-pub start-laid : (s : Sheet) (op : ChainOp) (t : ℕ) → layoutAt s (startType op t) ≡ startLayout s op t
+pub start-laid : (s : Sheet) (op : ChainOp) (t : ℕ) → layoutAt s (startType op t) ≡ startLayout (s .setting) (answerIn s) op t
 unfolding layoutAt startType startLayout
 start-laid s AccessChain t = refl
 start-laid s InBoundsAccessChain t = refl

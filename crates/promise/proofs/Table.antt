@@ -22,7 +22,7 @@ use Rattle.sheet.specs.Sheet.{Sheet, declared, declIn, pointeeIn, readSheet}
 use Rattle.sheet.specs.Statements.{All, FitsType, FitsQuestion, GoodSheet}
 use Rattle.sheet.proofs.GoodSheet.{reads-good}
 use Rattle.layout.specs.Arrays.{runtimeParams}
-use Rattle.layout.specs.Layouts.{answerIn, runtimeArrayIn}
+use Rattle.layout.specs.Layouts.{answerIn, runtimeArrayBy}
 use Rattle.layout.specs.Lookup.{inMemoryOnly, lookup}
 use Rattle.layout.specs.Statements.{Has, PartsOf, IsLayoutRefusal}
 use Rattle.layout.proofs.InSheet.{decl-there}
@@ -30,8 +30,8 @@ use Rattle.layout.proofs.Parts.{parts}
 use Rattle.layout.proofs.Refusals.{refused-only, array-only, element-there}
 use Rattle.lower.specs.declared.Pending.the-variants.{Empty}
 use Rattle.lower.specs.Steps.{Field, fieldAt}
-use Rattle.lower.specs.Chain.{startLayout, lowerChain}
-use Rattle.lower.specs.Other.{bufferOf, memberOf, runtimeStride, strideOfPart, arrayLength, localVariable}
+use Rattle.lower.specs.Chain.{startLayout, chainBy, lowerChain}
+use Rattle.lower.specs.Other.{bufferOf, memberOf, runtimeStride, strideOfPart, lengthIn, lengthBy, arrayLength, variableBy}
 use Rattle.lower.proofs.Moves.{field-is}
 use Rattle.lower.proofs.Onward.{start-in}
 use Rattle.lower.proofs.Refusals.{IsWalkRefusal, laid-only, chain-only}
@@ -123,8 +123,8 @@ module _ (s : Sheet) (good : GoodSheet s) where
   unfolding pointeeIn
   pointee-by P ptr lt p = then-by _ _ (decl-by ptr lt) λ d h. type-by P p (d .type)
 
-  start-by : {P : ℕ → Type 0} (op : ChainOp) (t : ℕ) → t < length (s .types) → ((n : ℕ) → IsLayoutRefusal n → P n) → RefusedBy P (startLayout s op t)
-  unfolding startLayout runtimeArrayIn runtimeParams
+  start-by : {P : ℕ → Type 0} (op : ChainOp) (t : ℕ) → t < length (s .types) → ((n : ℕ) → IsLayoutRefusal n → P n) → RefusedBy P (startLayout (s .setting) (answerIn s) op t)
+  unfolding startLayout runtimeArrayBy runtimeParams
   start-by AccessChain t lt f = layout-by t lt f
   start-by InBoundsAccessChain t lt f = layout-by t lt f
   start-by PtrAccessChain t lt f = wider-by f (array-only (s .setting) (answerIn s) (runtimeParams (s .setting) t Undecorated) (refused-only s good t lt))
@@ -146,7 +146,7 @@ module _ (s : Sheet) (good : GoodSheet s) where
   walkNumbers = 19 ∷ 20 ∷ 21 ∷ 22 ∷ 23 ∷ []
 
   chain-by : (op : ChainOp) (ptr : ℕ) (is : List Index) → ptr < length (s .types) → RefusedBy (Behind walkNumbers) (lowerChain s op ptr is)
-  unfolding lowerChain range
+  unfolding chainBy range
   chain-by op ptr is lt =
       then-by _ _ (pointee-by (Behind walkNumbers) ptr lt (inl refl)) λ t h. then-by _ _ (start-by op t (pointee-lower ptr t h) (layout-behind walkNumbers)) λ l g.
       wider-by (λ n k. other-behind walkNumbers n (in-range 19 5 n (k .0) (omega (arith, k .1)))) (chain-only s is l (start-in s op t l g) Empty)
@@ -216,7 +216,7 @@ module _ (s : Sheet) (good : GoodSheet s) where
       laid-only (p .each n (f .type) (f .offset) (i .of-type) (i .at) .laid)
 
   length-by : (ptr member : ℕ) → ptr < length (s .types) → RefusedBy OfLength (arrayLength s ptr member)
-  unfolding arrayLength
+  unfolding lengthBy lengthIn
   length-by ptr member lt =
       then-by _ _ (pointee-by OfLength ptr lt (inl refl)) λ t h. then-by _ _ (layout-by t (pointee-lower ptr t h) (layout-behind lengthNumbers)) λ l g.
       then-by _ _ (buffer-by l) λ b k. then-by _ _ (member-by (b .components) member) λ f j. then-by _ _ (member-laid t l b g k (b .components) refl member f j) λ part e.
@@ -233,7 +233,7 @@ module _ (s : Sheet) (good : GoodSheet s) where
   -- ---- any question
 
   question-by : (q : Question) → FitsQuestion (length (s .types)) q → RefusedBy (Has (refusalsOf q)) (answer s q)
-  unfolding answer lookup localVariable
+  unfolding answer lookup variableBy
   question-by (Question.T t) f = then-by _ _ (layout-by t f layout-has) λ l h. fine-by
   question-by (Question.E a b) f = then-by _ _ (layout-by a (f .0) layout-has) λ l h. then-by _ _ (layout-by b (f .1) layout-has) λ m g. fine-by
   question-by (Question.Q t start end) f =

@@ -1,0 +1,1 @@
+-- Laws for the questions asked of a pointer. Assumes nothing.
