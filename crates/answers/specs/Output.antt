@@ -13,9 +13,13 @@ printed [] = code "\n" ∷ []
 printed (f ∷ []) = f ++ (code "\n" ∷ [])
 printed (f ∷ g ∷ gs) = f ++ (code "," ∷ printed (g ∷ gs))
 
+-- a line per question
+unfoldable pub linesBy : (answer-of : Question → Result AnswerLine) → List Question → List ℕ
+linesBy answer-of [] = []
+linesBy answer-of (q ∷ qs) = printed (resultLine (answer-of q)) ++ linesBy answer-of qs
+
 abbrev pub answerLines : Sheet → List Question → List ℕ
-answerLines s [] = []
-answerLines s (q ∷ qs) = printed (resultLine (answer s q)) ++ answerLines s qs
+answerLines s qs = linesBy (answer s) qs
 
 abbrev pub outputOf : Result Sheet → List ℕ
 outputOf (ok s) = answerLines s (s .questions)

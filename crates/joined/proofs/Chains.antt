@@ -19,7 +19,7 @@ use Rattle.laid.proofs.OfSheet.{rows-of-sheet}
 use Rattle.lower.specs.declared.QPtrOp.{QPtrOp}
 use Rattle.lower.specs.declared.Pending.the-variants.{Empty}
 use Rattle.lower.specs.Steps.{lowerFrom}
-use Rattle.lower.specs.Chain.{startLayout, lowerChain, chainInRoom}
+use Rattle.lower.specs.Chain.{startLayout, chainBy, lowerChain, chainInRoom}
 use Rattle.moves.specs.Moves.{indicesIn}
 use Rattle.moves.specs.Written.{inRoomBehind}
 use Rattle.chain.specs.Chains.{chainFrom}
@@ -29,7 +29,7 @@ use Rattle.joined.specs.Statements.{FromPointee, ChainsOfSheet}
 -- from the pointee's layout
 from-pointee : (s : Sheet) (op : ChainOp) (ptr t : ℕ) (is : List Index) → FromPointee op → pointeeIn s ptr ≡ ok t
     → lowerChain s op ptr is ≡ (answerIn s t >>= λ l. lowerFrom (answerIn s) l Empty is)
-unfolding lowerChain startLayout _>>=_
+unfolding chainBy startLayout _>>=_
 from-pointee s AccessChain ptr t is f e = rw e
 from-pointee s InBoundsAccessChain ptr t is f e = rw e
 from-pointee s PtrAccessChain ptr t is f e = absurd f
