@@ -3,3 +3,4 @@ pub mod Refusals
 pub mod Numbers
 pub mod Checked
 pub mod Statements
+pub mod Pairs

@@ -13,7 +13,8 @@ use lib.Seq.{sets, drop-cons}
 use Rattle.arith.specs.Numbers.{max-u32}
 use Rattle.layout.specs.Arrays.{Answer}
 use Rattle.layout.specs.Lookup.{elementHolding, sizeAtIndex, fieldHolds, memoryPasses, fieldsHolding}
-use Rattle.components.specs.Found.{both, heldElement, counted, kept}
+use Rattle.arith.specs.Pairs.{both}
+use Rattle.components.specs.Found.{heldElement, counted, kept}
 use Rattle.components.specs.declared.Element.the-variants.{At, Nothing}
 
 module _ (answer-of : ℕ → Answer) (start end i : ℕ) where

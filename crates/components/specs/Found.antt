@@ -4,6 +4,7 @@ use mathlib.Core.Bool.{Bool, true, false, cond}
 use mathlib.Core.List.{List, [], _∷_}
 use lib.ListN.{length, set}
 use lib.Seq.{sets}
+use Rattle.arith.specs.Pairs.{both}
 use Rattle.arith.specs.Refusals.{Result, ok, refused, inRoom}
 use Rattle.shapes.specs.declared.Components.{Components}
 use Rattle.shapes.specs.Spans.{spansOf, partsBy, answerOver}
@@ -14,9 +15,6 @@ use Rattle.components.specs.declared.Element.{Element}
 use Rattle.components.specs.declared.Element.the-variants.{At, Nothing}
 use Rattle.components.specs.declared.Lookup.{Lookup}
 use Rattle.components.specs.declared.Lookup.the-variants.{Found, Refused}
-
-abbrev pub both : {A B : Type 0} → A → B → A × B
-both a b = (a, b)
 
 -- what a type answers, from the tables
 abbrev pub answersIn : (layouts : List ℕ) (n : ℕ) (offsets members : List ℕ) → ℕ → Answer

@@ -12,7 +12,8 @@ ghost use Rattle.shapes.specs.Spans.{Reading, answerBy};
 ghost use Rattle.shapes.specs.Rows.{answerAt};
 ghost use Rattle.arith.specs.Refusals.{ok};
 ghost use Rattle.layout.specs.Lookup.{sizeAtIndex, elementHolding, fieldHolds, memoryPasses, fieldsHolding, sizeOfPart};
-ghost use Rattle.components.specs.Found.{both, foundIn, lookupIn, heldElement, counted, kept, answeredIn};
+ghost use Rattle.arith.specs.Pairs.{both};
+ghost use Rattle.components.specs.Found.{foundIn, lookupIn, heldElement, counted, kept, answeredIn};
 
 // The element that holds a range of bytes, if one does.
 pub enum Element {

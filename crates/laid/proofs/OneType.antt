@@ -26,7 +26,8 @@ use Rattle.shapes.specs.declared.Answer.the-variants.{Laid}
 use Rattle.layout.specs.Arrays.{numberLayout}
 use Rattle.layout.specs.Structs as structs
 use Rattle.layout.specs.Layouts.{Rule, ofSetting, ofWidth, ofElements, ofMembers, ofHandle, noLayout, ruleOf, byRule, layoutOf}
-use Rattle.structs.specs.Rows.{StructMemory, both, blockOr, fieldsAt, structBoth, structOfRow}
+use Rattle.arith.specs.Pairs.{both}
+use Rattle.structs.specs.Rows.{StructMemory, blockOr, fieldsAt, structBoth, structOfRow}
 use Rattle.structs.specs.Statements.{Holds, layoutWith}
 use Rattle.structs.proofs.Declared.{declared-structs, one-offset-each}
 use Rattle.records.specs.Records.{byRuleOfRow, layoutOfRow}

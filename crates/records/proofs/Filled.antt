@@ -14,7 +14,8 @@ use Rattle.shapes.specs.Rows.{flat}
 use Rattle.shapes.specs.Spans.{answerBy, itself}
 use Rattle.shapes.proofs.RowLaws.{next-row, answer-of-list}
 use Rattle.layout.specs.Arrays as arrays
-use Rattle.structs.specs.Rows.{belowIn, both}
+use Rattle.arith.specs.Pairs.{both}
+use Rattle.structs.specs.Rows.{belowIn}
 use Rattle.records.specs.Records.{layoutOfRow, belowOf, withNext, records, recordAt}
 
 below-of : (rs : List Answer) (rest : List ℕ) → belowIn (flat rs ++ rest) (length rs) ≡ belowOf rs

@@ -20,7 +20,8 @@ use Rattle.shapes.specs.Rows.{flat}
 use Rattle.layout.specs.Arrays as arrays
 use Rattle.layout.specs.Layouts.{Rule, ofSetting, ofWidth, ofElements, ofMembers, ofHandle, noLayout, ruleOf, byRule}
 use Rattle.rules.specs.Rules.{paramsOf}
-use Rattle.structs.specs.Rows.{belowIn, structOfRow, both, structBoth}
+use Rattle.arith.specs.Pairs.{both}
+use Rattle.structs.specs.Rows.{belowIn, structOfRow, structBoth}
 use Rattle.records.specs.declared.Rule.the-variants as rule
 use Rattle.records.specs.declared.Rule as code
 use Rattle.records.specs.declared.Filling.{Filling}

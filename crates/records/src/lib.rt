@@ -13,7 +13,8 @@ use spirv::Stride;
 ghost use mathlib.Core.Path.{_≡_};
 ghost use Prim.Native.Nat.{_*_};
 ghost use Rattle.layout.specs.Layouts.{ruleOf};
-ghost use Rattle.structs.specs.Rows.{belowIn, both};
+ghost use Rattle.arith.specs.Pairs.{both};
+ghost use Rattle.structs.specs.Rows.{belowIn};
 ghost use Rattle.records.specs.Records.{ruleBy, byRuleOfRow, layoutOfRow, recordAt, filling};
 
 // Which rule a type follows.

@@ -2,12 +2,14 @@
 use crate::Answer;
 use crate::Components;
 use crate::Handle;
+use crate::LayoutConfig;
 use crate::MaybeDynMemLayout;
 use crate::MemLayout;
 use crate::MemTypeLayout;
 use crate::TypeLayout;
 ghost use mathlib.Core.Path.{_≡_};
 ghost use lib.ListN.{length};
+ghost use Rattle.shapes.specs.Settings.{settingOf};
 ghost use Rattle.shapes.specs.Words.{memoryWords, handleWords, encode, componentsOf, memoryOf, handleOf, answerOf, decode};
 
 // ---- to words
@@ -151,4 +153,20 @@ pub fn answer(ws: &[u32]) -> Answer
         return a;
     }
     Answer::Refused(1)
+}
+
+// ---- a setting
+
+// The setting that six words hold, as a sheet's table has them.
+pub fn setting_of(ws: &[u32]) -> LayoutConfig
+    ensures { λ r. ⌜ r ≡ settingOf (now (ws .entry)) ⌝ }
+{
+    LayoutConfig {
+        ignore_legacy_align: spirv::word_at(ws, 0) == 1,
+        min_aggregate_legacy_align: spirv::word_at(ws, 1),
+        abstract_bool_size: spirv::word_at(ws, 2),
+        abstract_bool_align: spirv::word_at(ws, 3),
+        logical_ptr_size: spirv::word_at(ws, 4),
+        logical_ptr_align: spirv::word_at(ws, 5),
+    }
 }

@@ -3,7 +3,7 @@ use lower::QPtrOp;
 use spirv::Index;
 ghost use mathlib.Core.Path.{_≡_};
 ghost use mathlib.Core.List.{[], _∷_};
-ghost use lib.ListN.{getD, set};
+ghost use lib.ListN.{set};
 ghost use Rattle.steps.specs.Words.{wordOf, withIndex, encode, indexOf, decode};
 ghost use Rattle.steps.specs.Lists.{stepAt};
 ghost use Rattle.steps.specs.Stored.{StoredAt};
@@ -114,16 +114,6 @@ pub fn step_of(s: StepWords) -> QPtrOp
 
 // ---- in five lists
 
-// Word j of a list; past its end 0.
-fn word_at(list: &[u32], j: usize) -> u32
-    ensures { λ r. ⌜ r ≡ getD (now (list .entry)) j 0 ⌝ }
-{
-    if j < list.len() {
-        return list[j];
-    }
-    0
-}
-
 // Step j of those that five lists hold.
 pub fn step_at(
     kinds: &[u32],
@@ -136,11 +126,11 @@ pub fn step_at(
     ensures { λ r. ⌜ r ≡ stepAt (now (kinds .entry)) (now (bytes .entry)) (now (bounds .entry)) (now (marks .entry)) (now (indices .entry)) j ⌝ }
 {
     step_of(StepWords {
-        kind: word_at(kinds, j),
-        bytes: word_at(bytes, j),
-        bound: word_at(bounds, j),
-        mark: word_at(marks, j),
-        index: word_at(indices, j),
+        kind: spirv::word_at(kinds, j),
+        bytes: spirv::word_at(bytes, j),
+        bound: spirv::word_at(bounds, j),
+        mark: spirv::word_at(marks, j),
+        index: spirv::word_at(indices, j),
     })
 }
 

@@ -6,6 +6,7 @@ use mathlib.Core.List.{List}
 use lib.Dec.{leb, eqb}
 use lib.ListN.{length}
 use lib.Seq.{sets}
+use Rattle.arith.specs.Pairs.{both}
 use Rattle.arith.specs.Refusals.{Result, ok, refused, _>>=_, _>>_, refuse_unless_, misread, offsets-missing}
 use Rattle.spirv.specs.declared.DeclRow.{DeclRow}
 use Rattle.shapes.specs.declared.LayoutConfig.{LayoutConfig}
@@ -91,9 +92,6 @@ blockOr false m = Concrete m
 
 abbrev pub fieldsAt : DeclRow → MaybeDynMemLayout → MemTypeLayout
 fieldsAt r mem = record { mem = mem; components = Fields (r .start) (r .count) }
-
-abbrev pub both : {A B : Type 0} → A → B → A × B
-both a b = (a, b)
 
 -- the answer, and the list of offsets afterwards: untouched where the struct is refused
 unfoldable pub structBoth : (block : Bool) → DeclRow → (offsets : List ℕ) → Result StructMemory → Answer × List ℕ

@@ -19,7 +19,8 @@ ghost use Rattle.rules.specs.Rules.{withParts, numbered};
 ghost use Rattle.shapes.specs.Spans.{answerBy, itself};
 ghost use Rattle.layout.specs.Structs.{memberLayouts, noMembers, finalSize};
 ghost use Rattle.structs.specs.Steps.{memberOf, heldMember, SaysStep, stepGiven, stepInTurn, extentIn, heldExtent, joined, heldStep, stepOf, heldPlacing, extentOf, offsetsOf};
-ghost use Rattle.structs.specs.Rows.{belowIn, verdictOf, decorationsOf, withSize, heldMemory, Places, memoryOf, spanWithin, blockOr, fieldsAt, structOfRow, both, structBoth};
+ghost use Rattle.arith.specs.Pairs.{both};
+ghost use Rattle.structs.specs.Rows.{belowIn, verdictOf, decorationsOf, withSize, heldMemory, Places, memoryOf, spanWithin, blockOr, fieldsAt, structOfRow, structBoth};
 
 // A member's memory, or a refusal.
 pub enum Member {

@@ -9,7 +9,8 @@ use mathlib.Core.List.{List, []}
 use mathlib.Core.Path.{_≡_, refl, ap, _∙_}
 use Prim.Native.Nat.{ℕ, _+_, _-_, _≤_, min}
 use Rattle.components.proofs.Walk.{kept-few, count-start, fields-turn, fields-over}
-use Rattle.components.specs.Found.{both, counted, kept}
+use Rattle.arith.specs.Pairs.{both}
+use Rattle.components.specs.Found.{counted, kept}
 use Rattle.layout.specs.Lookup.{fieldsHolding}
 use Rattle.shapes.specs.Rows.{answerAt}
 use Rattle.shapes.specs.Spans.{Reading, answerBy}

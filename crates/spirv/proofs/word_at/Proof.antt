@@ -1,6 +1,6 @@
--- `steps::word_at` meets its contract. Assumes nothing.
-use Rattle.steps.proofs.word_at.Statement.{statement}
-use Rattle.steps.proofs.word_at.Tie as tie
+-- `spirv::word_at` meets its contract. Assumes nothing.
+use Rattle.spirv.proofs.word_at.Statement.{statement}
+use Rattle.spirv.proofs.word_at.Tie as tie
 use borrow.Author.Needs.{needs}
 use lib.ListN.{List·getD-eq-default}
 use denote.Ref.{now}
