@@ -64,7 +64,7 @@ one-less t n = by (ltb t n) refl
     by true e = lt-ltb (suc t) (suc n) (omega (arith, ltb-true t n e))
     by false e = le-ltb (suc t) (suc n) (omega (arith, ltb-false t n e))
 
-type-test : {A : Type 0} (ds : List Decl) (t : ℕ) (next : Result A) → ((refuse misread unless ltb t (length ds)) >> next) ≡ (declared (getElem? ds t) >> next)
+pub type-test : {A : Type 0} (ds : List Decl) (t : ℕ) (next : Result A) → ((refuse misread unless ltb t (length ds)) >> next) ≡ (declared (getElem? ds t) >> next)
 unfolding _>>_ refuse_unless_
 type-test [] t next = rw (le-ltb t 0 (omega arith))
 type-test (d ∷ ds) zero next = rw (lt-ltb 0 (length (d ∷ ds)) (omega arith))
