@@ -12,8 +12,9 @@ use shapes::TypeLayout;
 use spirv::ChainOp;
 use spirv::RowReading;
 use spirv::SpvType;
+ghost use Prim.Native.Nat.{ℕ};
 ghost use mathlib.Core.Path.{_≡_};
-ghost use Rattle.arith.specs.Refusals.{ok, _>>=_};
+ghost use mathlib.Core.List.{List};
 ghost use Rattle.spirv.specs.Decl.{pointeeOf};
 ghost use Rattle.shapes.specs.Spans.{Reading, Says, answerBy, layoutBy, memoryBy, partsBy, spansOf};
 ghost use Rattle.shapes.specs.Rows.{answerAt};
@@ -21,10 +22,10 @@ ghost use Rattle.rules.specs.Rules.{numbered};
 ghost use Rattle.components.specs.Found.{answersIn};
 ghost use Rattle.lower.specs.Steps.{fieldAt};
 ghost use Rattle.lower.specs.Chain.{startLayout};
-ghost use Rattle.lower.specs.Other.{bufferOf, memberOf, strideOfPart, lengthIn, fixedMemory, variableBy};
+ghost use Rattle.lower.specs.Other.{memberOf, runtimeStride, strideOfPart, lengthIn, fixedMemory, variableBy};
 ghost use Rattle.moves.specs.Written.{Wrote};
 ghost use Rattle.chain.specs.Chains.{roomOf};
-ghost use Rattle.pointers.specs.OverTables.{pointeeAt, chainOver, lengthOver};
+ghost use Rattle.pointers.specs.OverTables.{pointeeAt, startBy, chainOver, lengthOf, lengthOver};
 ghost use Rattle.pointers.specs.InCode.{asPointee, asField, asLength, asMemory, asVariable};
 
 // ---- the pointee
@@ -38,19 +39,35 @@ fn pointee_of(ty: SpvType) -> Pointee
     ensures { λ r. ⌜ r ≡ asPointee (pointeeOf ty) ⌝ }
 {
     match ty {
+        SpvType::Bool => Pointee::Refused(18),
+        SpvType::Int { width: _ } => Pointee::Refused(18),
+        SpvType::Float { width: _ } => Pointee::Refused(18),
+        SpvType::Vector { elem: _, len: _ } => Pointee::Refused(18),
+        SpvType::Matrix { column: _, len: _ } => Pointee::Refused(18),
+        SpvType::Array {
+            elem: _,
+            len: _,
+            stride: _,
+        } => Pointee::Refused(18),
+        SpvType::RuntimeArray { elem: _, stride: _ } => Pointee::Refused(18),
+        SpvType::Struct { block: _ } => Pointee::Refused(18),
         SpvType::Pointer { class: _, pointee } => Pointee::Type(pointee),
-        _ => Pointee::Refused(18),
+        SpvType::Opaque => Pointee::Refused(18),
+        SpvType::Unsupported => Pointee::Refused(18),
     }
 }
 
 // The pointee of type ptr, of the first n types; 18 on a type that is no pointer.
-pub fn pointee(types: &[u32], n: u32, ptr: u32) -> Pointee
+pub fn pointee_at(types: &[u32], n: u32, ptr: u32) -> Pointee
     ensures { λ r. ⌜ r ≡ asPointee (pointeeAt (now (types .entry)) n ptr) ⌝ }
 {
     if ptr < n {
         return match spirv::read_row(types, ptr) {
             RowReading::Broken => Pointee::Refused(1),
-            RowReading::Row(r) => pointee_of(r.ty),
+            RowReading::Row(r) => {
+                let ty = r.ty;
+                pointee_of(ty)
+            }
         };
     }
     Pointee::Refused(1)
@@ -59,7 +76,7 @@ pub fn pointee(types: &[u32], n: u32, ptr: u32) -> Pointee
 // ---- chains
 
 // 65 and 66 start from the pointee, 67 and 70 from an undecorated runtime array of it.
-pub fn start_layout(cfg: LayoutConfig, layouts: &[u32], n: u32, op: ChainOp, t: u32) -> Answer
+fn start_layout(cfg: LayoutConfig, layouts: &[u32], n: u32, op: ChainOp, t: u32) -> Answer
     ensures { λ r. ⌜ Says r (λ f. startLayout cfg (λ u. answerBy f (answerAt (now (layouts .entry)) n u)) op t) ⌝ }
 {
     let a = shapes::rows::answer_at(layouts, n, t);
@@ -68,6 +85,23 @@ pub fn start_layout(cfg: LayoutConfig, layouts: &[u32], n: u32, op: ChainOp, t: 
         ChainOp::InBoundsAccessChain => a,
         ChainOp::PtrAccessChain => rules::runtime_array(cfg, t, a),
         ChainOp::InBoundsPtrAccessChain => rules::runtime_array(cfg, t, a),
+    }
+}
+
+// What a chain starts from, by its pointer.
+fn start_at(
+    cfg: LayoutConfig,
+    n: u32,
+    types: &[u32],
+    layouts: &[u32],
+    op: ChainOp,
+    ptr: u32,
+) -> Answer
+    ensures { λ r. ⌜ Says r (λ f. startBy cfg (pointeeAt (now (types .entry)) n) (λ u. answerBy f (answerAt (now (layouts .entry)) n u)) op ptr) ⌝ }
+{
+    match pointee_at(types, n, ptr) {
+        Pointee::Refused(e) => Answer::Refused(e),
+        Pointee::Type(t) => start_layout(cfg, layouts, n, op, t),
     }
 }
 
@@ -96,10 +130,7 @@ pub fn lower_access_chain(
     if 510 < chain.len() {
         return Walk::Refused(2);
     }
-    let Pointee::Type(t) = pointee(types, n, ptr) else {
-        return Walk::Refused(18);
-    };
-    match start_layout(cfg, layouts, n, op, t) {
+    match start_at(cfg, n, types, layouts, op, ptr) {
         Answer::Refused(e) => Walk::Refused(e),
         Answer::Laid(l) => chain::lower_from(
             layouts,
@@ -156,12 +187,17 @@ fn member_of(offsets: &[u32], members: &[u32], c: Components, member: u32) -> Fi
             let ts = shapes::rows::span(members, start, count);
             field_at(os, ts, member)
         }
-        _ => Field::Refused(21),
+        Components::Elements {
+            stride: _,
+            elem: _,
+            fixed_len: _,
+        } => Field::Refused(21),
+        Components::Scalar => Field::Refused(21),
     }
 }
 
 fn runtime_stride(c: Components) -> Number
-    ensures { λ r. ⌜ ((f : Reading) → r ≡ numbered (runtimeStride (partsBy f c))) ⌝ }
+    ensures { λ r. ⌜ ((os ms : List ℕ) → r ≡ numbered (runtimeStride (partsBy (spansOf os ms) c))) ⌝ }
 {
     match c {
         Components::Elements {
@@ -174,16 +210,21 @@ fn runtime_stride(c: Components) -> Number
             }
             Number::Refused(26)
         }
-        _ => Number::Refused(26),
+        Components::Scalar => Number::Refused(26),
+        Components::Fields { start: _, count: _ } => Number::Refused(26),
     }
 }
 
 fn stride_of_part(l: TypeLayout) -> Number
-    ensures { λ r. ⌜ ((f : Reading) → r ≡ numbered (strideOfPart (layoutBy f l))) ⌝ }
+    ensures { λ r. ⌜ ((os ms : List ℕ) → r ≡ numbered (strideOfPart (layoutBy (spansOf os ms) l))) ⌝ }
 {
     match l {
-        TypeLayout::Concrete(m) => runtime_stride(m.components),
-        _ => Number::Refused(26),
+        TypeLayout::Concrete(m) => {
+            let c = m.components;
+            runtime_stride(c)
+        }
+        TypeLayout::Handle(_) => Number::Refused(26),
+        TypeLayout::HandleArray(_, _) => Number::Refused(26),
     }
 }
 
@@ -200,7 +241,8 @@ fn length_in(
 {
     let mem = m.mem;
     let base = mem.fixed_base;
-    match member_of(offsets, members, m.components, member) {
+    let c = m.components;
+    match member_of(offsets, members, c, member) {
         Field::Refused(e) => ArrayLength::Refused(e),
         Field::At { offset, ty } => match shapes::rows::answer_at(layouts, n, ty) {
             Answer::Refused(e) => ArrayLength::Refused(e),
@@ -226,14 +268,15 @@ fn length_of(
     l: TypeLayout,
     member: u32,
 ) -> ArrayLength
-    ensures { λ r. ⌜ r ≡ asLength (bufferOf (layoutBy (spansOf (now (offsets .entry)) (now (members .entry))) l) >>= λ m. lengthIn (answersIn (now (layouts .entry)) n (now (offsets .entry)) (now (members .entry))) m member) ⌝ }
+    ensures { λ r. ⌜ r ≡ asLength (lengthOf (answersIn (now (layouts .entry)) n (now (offsets .entry)) (now (members .entry))) (layoutBy (spansOf (now (offsets .entry)) (now (members .entry))) l) member) ⌝ }
 {
     match l {
         TypeLayout::Handle(h) => match h {
             Handle::Opaque => ArrayLength::Refused(25),
             Handle::Buffer(m) => length_in(layouts, n, offsets, members, m, member),
         },
-        _ => ArrayLength::Refused(25),
+        TypeLayout::HandleArray(_, _) => ArrayLength::Refused(25),
+        TypeLayout::Concrete(_) => ArrayLength::Refused(25),
     }
 }
 
@@ -248,7 +291,7 @@ pub fn array_length(
 ) -> ArrayLength
     ensures { λ r. ⌜ r ≡ asLength (lengthOver n (now (types .entry)) (now (layouts .entry)) (now (offsets .entry)) (now (members .entry)) ptr member) ⌝ }
 {
-    match pointee(types, n, ptr) {
+    match pointee_at(types, n, ptr) {
         Pointee::Refused(e) => ArrayLength::Refused(e),
         Pointee::Type(t) => match shapes::rows::answer_at(layouts, n, t) {
             Answer::Refused(e) => ArrayLength::Refused(e),
@@ -272,19 +315,21 @@ fn fixed_memory(l: TypeLayout) -> Variable
     match l {
         TypeLayout::Concrete(m) => {
             let mem = m.mem;
+            let base = mem.fixed_base;
             if mem.dyn_unit_stride == 0 {
-                return Variable::Fixed(mem.fixed_base);
+                return Variable::Fixed(base);
             }
             Variable::Other
         }
-        _ => Variable::Other,
+        TypeLayout::Handle(_) => Variable::Other,
+        TypeLayout::HandleArray(_, _) => Variable::Other,
     }
 }
 
 pub fn local_variable(n: u32, types: &[u32], layouts: &[u32], ptr: u32) -> Variable
     ensures { λ r. ⌜ ((f : Reading) → r ≡ asVariable (variableBy (pointeeAt (now (types .entry)) n) (λ t. answerBy f (answerAt (now (layouts .entry)) n t)) ptr)) ⌝ }
 {
-    match pointee(types, n, ptr) {
+    match pointee_at(types, n, ptr) {
         Pointee::Refused(e) => Variable::Refused(e),
         Pointee::Type(t) => match shapes::rows::answer_at(layouts, n, t) {
             Answer::Refused(e) => Variable::Refused(e),
