@@ -11,17 +11,6 @@ use shapes::Answer;
 use shapes::LayoutConfig;
 use spirv::ChainOp;
 
-fn config(setting: &[u32; 6]) -> LayoutConfig {
-    LayoutConfig {
-        ignore_legacy_align: setting[0] == 1,
-        min_aggregate_legacy_align: setting[1],
-        abstract_bool_size: setting[2],
-        abstract_bool_align: setting[3],
-        logical_ptr_size: setting[4],
-        logical_ptr_align: setting[5],
-    }
-}
-
 fn write(out: &[u8], line: text::Answer) {
     match line {
         text::Answer::Bytes(n) => {
@@ -88,7 +77,7 @@ fn steps(
     let mut bounds = [0u32; 256];
     let mut marks = [0u32; 256];
     let mut indices = [0u32; 256];
-    let r = pointers::lower_access_chain(
+    let r = lowering::lower_access_chain(
         cfg,
         n,
         types,
@@ -240,7 +229,7 @@ fn show(sheet: &[u8]) {
     match reading::read_sheet(sheet, &mut setting, &mut types, &mut members, &mut given) {
         SheetAnswer::Refused(e) => refusal(&mut out, e),
         SheetAnswer::Types(n) => {
-            let cfg = config(&setting);
+            let cfg = shapes::words::setting_of(&setting);
             records::layouts(cfg, n, &types, &members, &given, &mut offsets, &mut layouts);
             answers(
                 sheet,
