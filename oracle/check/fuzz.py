@@ -1,7 +1,7 @@
 #!/usr/bin/env python3
 """fuzz.py ORACLE [ORACLE2] [--sheets N] [--seed S] [--code LAYING]: random well-formed sheets;
-the oracle's answers against model.py's (and against a second build of the oracle), and T, E and Q
-against those of the program `laying` (target/bin/laying)."""
+the oracle's answers against model.py's (and against a second build of the oracle), and against those
+of the program `laying` (target/bin/laying)."""
 import collections
 import os
 import random
@@ -186,7 +186,7 @@ def ask(binary, sheets):
 
 
 def run_code(sheets):
-    """The answers of `laying` to T, E and Q, a list for each sheet."""
+    """The answers of `laying`, a list for each sheet."""
     with tempfile.TemporaryDirectory() as folder:
         names = ['sheet-%d' % i for i in range(len(sheets))]
         for name, s in zip(names, sheets):
@@ -283,17 +283,13 @@ while left > 0:
     got = ask(args[0], sheets)
     for other in args[1:]:
         assert ask(other, sheets) == got, 'the two builds differ'
-    if code:
-        for s, g, c in zip(sheets, got, run_code(sheets)):
-            theirs = [a for q, a in zip((x for x in s if x[0] in 'TEQCLX'), g) if q[0] in 'TEQ']
-            assert theirs == c, ('the code differs', s, theirs, c)
-            seen['code agrees'] += len(c)
-    for s, g in zip(sheets, got):
+    coded = run_code(sheets) if code else got
+    for s, g, c in zip(sheets, got, coded):
         m = model.Sheet('\n'.join(s))
         want = model.answers('\n'.join(s))
         questions = [x for x in s if x[0] in 'TEQCLX']
-        assert len(g) == len(questions), (s, g)
-        for q, a, b in zip(questions, g, want):
+        assert len(g) == len(c) == len(questions), (s, g, c)
+        for q, a, b, d in zip(questions, g, want, c):
             seen[q[0] + ' ' + (a if a[0] == 'e' else 'ok')] += 1
             if q[0] == 'C' and a[0] == 'c':
                 walk(m, q, a)
@@ -305,10 +301,12 @@ while left > 0:
                     want_align = v[0], v[1] if m.min == 1 else v[2]
                     assert got_align == want_align, ('Vulkan', s, q, a, v)
                     seen['Vulkan alignments agree'] += 1
-            if a != b:
+            if code and a == d:
+                seen['code agrees, ' + q[0]] += 1
+            if a != b or a != d:
                 bad += 1
                 if bad <= 10:
-                    print('DIFFERS on', q, 'rust', a, 'model', b)
+                    print('DIFFERS on', q, 'rust', a, 'model', b, *(['code', d] if code else []))
                     print('\n'.join(x for x in s if x[0] not in 'TEQCLX'))
 print('sheets', opts['--sheets'], 'differences', bad)
 for k in sorted(seen):

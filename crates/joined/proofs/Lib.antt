@@ -1,4 +1,6 @@
-pub mod Chains
-pub mod Kept
-pub mod Values
+pub mod Alignments
+pub mod EndToEnd
+pub mod Made
+pub mod Pointers
 pub mod Reading
+pub mod Values

@@ -1,1 +1,2 @@
+pub mod EndToEnd
 pub mod Statements

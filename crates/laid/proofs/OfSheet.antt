@@ -1,15 +1,20 @@
 -- The tables of a sheet hold its types, and what they answer is what the sheet answers. Assumes nothing.
-use Prim.Native.Nat.{ℕ, _+_}
-use mathlib.Core.Path.{sym, ap, _∙_, fun-ext}
-use mathlib.Core.List.{List, _++_}
+use Prim.Native.Nat.{ℕ, zero, suc, _+_}
+use mathlib.Core.Path.{_≡_, refl, sym, ap, _∙_, fun-ext}
+use mathlib.Core.Bool.{Bool, true, false}
+use mathlib.Core.List.{List, [], _∷_, _++_}
 use native.Mathlib.Omega.{arith}
-use lib.ListN.{length, getD, drop, length-append, List·getD-map}
-use Rattle.arith.specs.Refusals.{refused, misread}
+use lib.Dec.{ltb}
+use lib.ListN.{length, getD, getElem?, drop, length-append, List·getD-map}
+use borrow.Author.Tests.{lt-ltb, le-ltb, ltb-true, ltb-false}
+use Rattle.arith.specs.Refusals.{Result, refused, _>>_, refuse_unless_, misread}
+use Rattle.spirv.specs.Decl.{Decl}
 use Rattle.shapes.specs.Rows.{answerAt, flat}
 use Rattle.shapes.specs.Spans.{answerOver}
 use Rattle.shapes.specs.declared.Answer.{Answer}
 use Rattle.shapes.specs.declared.Answer.the-variants.{Refused}
 use Rattle.shapes.proofs.RowLaws.{answer-of-list}
+use Rattle.sheet.specs.Sheet.{declared}
 use Rattle.sheet.specs.Tables.{membersWords, offsetsWords}
 use Rattle.sheet.proofs.Tables.{members-length, offsets-length, spans, read-back}
 use Rattle.layout.specs.Arrays as arrays
@@ -49,6 +54,20 @@ rows-of-sheet s types members given offsets rest tables t =
     ∙ ap (answerOver os members) (answer-of-list rs rest t)
     ∙ sym (List·getD-map (answerOver os members) rs t (Refused misread))
     ∙ ap (λ (l : List arrays.Answer). getD l t (refused misread)) (laid-out (s .setting) (s .types) types members given offsets tables)
+
+-- a number that is no type
+one-less : (t n : ℕ) → ltb (suc t) (suc n) ≡ ltb t n
+one-less t n = by (ltb t n) refl
+  where
+    by : (b : Bool) → ltb t n ≡ b → ltb (suc t) (suc n) ≡ b
+    by true e = lt-ltb (suc t) (suc n) (omega (arith, ltb-true t n e))
+    by false e = le-ltb (suc t) (suc n) (omega (arith, ltb-false t n e))
+
+pub type-test : {A : Type 0} (ds : List Decl) (t : ℕ) (next : Result A) → ((refuse misread unless ltb t (length ds)) >> next) ≡ (declared (getElem? ds t) >> next)
+unfolding _>>_ refuse_unless_
+type-test [] t next = rw (le-ltb t 0 (omega arith))
+type-test (d ∷ ds) zero next = rw (lt-ltb 0 (length (d ∷ ds)) (omega arith))
+type-test (d ∷ ds) (suc t) next = rw (one-less t (length ds)) (type-test ds t next)
 
 pub lookups-of-sheet : LookupsOfSheet
 lookups-of-sheet s types members given offsets rest tables t start end =

@@ -1,22 +1,15 @@
-// Answers the questions T, E and Q of the sheets that its arguments name, each behind a line with the sheet's name. What it writes is compared
-// with the original program's answers (tools/laying); its own functions are proved safe, and promise nothing more.
+// Answers the questions of the sheets that its arguments name, each sheet behind a line with its name. What it writes is compared with the
+// original program's answers (tools/laying); its own functions are proved safe, and promise nothing more.
 use asking::NextQuestion;
 use components::Lookup;
 use lines::Ask;
+use moves::Walk;
+use pointers::ArrayLength;
+use pointers::Variable;
 use reading::SheetAnswer;
 use shapes::Answer;
 use shapes::LayoutConfig;
-
-fn config(setting: &[u32; 6]) -> LayoutConfig {
-    LayoutConfig {
-        ignore_legacy_align: setting[0] == 1,
-        min_aggregate_legacy_align: setting[1],
-        abstract_bool_size: setting[2],
-        abstract_bool_align: setting[3],
-        logical_ptr_size: setting[4],
-        logical_ptr_align: setting[5],
-    }
-}
+use spirv::ChainOp;
 
 fn write(out: &[u8], line: text::Answer) {
     match line {
@@ -67,9 +60,85 @@ fn found(list: &[u32], count: usize, out: &mut [u8]) {
     }
 }
 
-fn answer(
-    layouts: &[u32],
+fn steps(
+    cfg: LayoutConfig,
     n: u32,
+    types: &[u32],
+    layouts: &[u32],
+    offsets: &[u32],
+    members: &[u32],
+    op: ChainOp,
+    ptr: u32,
+    chain: &[u32],
+    out: &mut [u8],
+) {
+    let mut kinds = [0u32; 256];
+    let mut bytes = [0u32; 256];
+    let mut bounds = [0u32; 256];
+    let mut marks = [0u32; 256];
+    let mut indices = [0u32; 256];
+    let r = lowering::lower_access_chain(
+        cfg,
+        n,
+        types,
+        layouts,
+        offsets,
+        members,
+        op,
+        ptr,
+        chain,
+        &mut kinds,
+        &mut bytes,
+        &mut bounds,
+        &mut marks,
+        &mut indices,
+    );
+    match r {
+        Walk::Steps(count) => {
+            let line = printing::whole::put_chain_line(
+                out,
+                &kinds,
+                &bytes,
+                &bounds,
+                &marks,
+                &indices,
+                count,
+            );
+            write(out, line);
+        }
+        Walk::Refused(e) => refusal(out, e),
+    }
+}
+
+fn length(answer: ArrayLength, out: &mut [u8]) {
+    match answer {
+        ArrayLength::Bytes { offset, stride } => {
+            let line = printing::whole::put_length_line(out, offset, stride);
+            write(out, line);
+        }
+        ArrayLength::Refused(e) => refusal(out, e),
+    }
+}
+
+fn variable(answer: Variable, out: &mut [u8]) {
+    match answer {
+        Variable::Fixed(m) => {
+            let line = printing::whole::put_variable_line(out, m);
+            write(out, line);
+        }
+        Variable::Other => {
+            let line = printing::whole::put_no_variable_line(out);
+            write(out, line);
+        }
+        Variable::Refused(e) => refusal(out, e),
+    }
+}
+
+fn answer(
+    cfg: LayoutConfig,
+    n: u32,
+    types: &[u32],
+    layouts: &[u32],
     offsets: &[u32],
     members: &[u32],
     ask: Ask,
@@ -95,20 +164,37 @@ fn answer(
                 Lookup::Refused(e) => refusal(out, e),
             }
         }
-        Ask::C {
-            op: _,
-            ptr: _,
-            count: _,
-        } => {}
-        Ask::L(_, _) => {}
-        Ask::X(_) => {}
+        Ask::C { op, ptr, count } => {
+            if count <= 255 {
+                let chain = shapes::rows::span(list, 0, (2 * count) as u32);
+                steps(
+                    cfg,
+                    n,
+                    types,
+                    layouts,
+                    offsets,
+                    members,
+                    op,
+                    ptr,
+                    chain,
+                    out,
+                );
+            }
+        }
+        Ask::L(ptr, member) => length(
+            pointers::array_length(n, types, layouts, offsets, members, ptr, member),
+            out,
+        ),
+        Ask::X(ptr) => variable(pointers::local_variable(n, types, layouts, ptr), out),
     }
 }
 
 fn answers(
     sheet: &[u8],
-    layouts: &[u32],
+    cfg: LayoutConfig,
     n: u32,
+    types: &[u32],
+    layouts: &[u32],
     offsets: &[u32],
     members: &[u32],
     list: &mut [u32],
@@ -118,7 +204,7 @@ fn answers(
     loop {
         match asking::next_question(sheet, at, list) {
             NextQuestion::Question { ask, next } => {
-                answer(layouts, n, offsets, members, ask, list, out);
+                answer(cfg, n, types, layouts, offsets, members, ask, list, out);
                 at = next;
             }
             NextQuestion::End => {
@@ -143,9 +229,19 @@ fn show(sheet: &[u8]) {
     match reading::read_sheet(sheet, &mut setting, &mut types, &mut members, &mut given) {
         SheetAnswer::Refused(e) => refusal(&mut out, e),
         SheetAnswer::Types(n) => {
-            let cfg = config(&setting);
+            let cfg = shapes::words::setting_of(&setting);
             records::layouts(cfg, n, &types, &members, &given, &mut offsets, &mut layouts);
-            answers(sheet, &layouts, n, &offsets, &members, &mut list, &mut out);
+            answers(
+                sheet,
+                cfg,
+                n,
+                &types,
+                &layouts,
+                &offsets,
+                &members,
+                &mut list,
+                &mut out,
+            );
         }
     }
 }

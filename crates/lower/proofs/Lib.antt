@@ -1,9 +1,10 @@
-pub mod Opened
+pub mod Examples
+pub mod Fields
 pub mod InCode
 pub mod Moves
-pub mod Onward
 pub mod Neighbours
-pub mod StepsFit
+pub mod Onward
+pub mod Opened
 pub mod Other
 pub mod Refusals
-pub mod Examples
+pub mod StepsFit

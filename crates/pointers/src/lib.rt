@@ -1,31 +1,24 @@
-// What is asked of a pointer's type, over tables of types and layouts: chains (try_lower_access_chain of lower.rs), and the arms for
-// OpArrayLength and OpVariable.
-use moves::Walk;
+// What is asked of a pointer's type, over tables of types and layouts: its pointee, and the arms for OpArrayLength and OpVariable of lower.rs.
 use rules::Number;
 use shapes::Answer;
 use shapes::Components;
 use shapes::Handle;
-use shapes::LayoutConfig;
 use shapes::MemLayout;
 use shapes::MemTypeLayout;
 use shapes::TypeLayout;
-use spirv::ChainOp;
 use spirv::RowReading;
 use spirv::SpvType;
 ghost use Prim.Native.Nat.{ℕ};
 ghost use mathlib.Core.Path.{_≡_};
 ghost use mathlib.Core.List.{List};
 ghost use Rattle.spirv.specs.Decl.{pointeeOf};
-ghost use Rattle.shapes.specs.Spans.{Reading, Says, answerBy, layoutBy, memoryBy, partsBy, spansOf};
+ghost use Rattle.shapes.specs.Spans.{Reading, answerBy, layoutBy, memoryBy, partsBy, spansOf};
 ghost use Rattle.shapes.specs.Rows.{answerAt};
 ghost use Rattle.rules.specs.Rules.{numbered};
 ghost use Rattle.components.specs.Found.{answersIn};
 ghost use Rattle.lower.specs.Steps.{fieldAt};
-ghost use Rattle.lower.specs.Chain.{startLayout};
 ghost use Rattle.lower.specs.Other.{memberOf, runtimeStride, strideOfPart, lengthIn, fixedMemory, variableBy};
-ghost use Rattle.moves.specs.Written.{Wrote};
-ghost use Rattle.chain.specs.Chains.{roomOf};
-ghost use Rattle.pointers.specs.OverTables.{pointeeAt, startBy, chainOver, lengthOf, lengthOver};
+ghost use Rattle.pointers.specs.OverTables.{pointeeAt, lengthOf, lengthOver};
 ghost use Rattle.pointers.specs.InCode.{asPointee, asField, asLength, asMemory, asVariable};
 
 // ---- the pointee
@@ -71,81 +64,6 @@ pub fn pointee_at(types: &[u32], n: u32, ptr: u32) -> Pointee
         };
     }
     Pointee::Refused(1)
-}
-
-// ---- chains
-
-// 65 and 66 start from the pointee, 67 and 70 from an undecorated runtime array of it.
-fn start_layout(cfg: LayoutConfig, layouts: &[u32], n: u32, op: ChainOp, t: u32) -> Answer
-    ensures { λ r. ⌜ Says r (λ f. startLayout cfg (λ u. answerBy f (answerAt (now (layouts .entry)) n u)) op t) ⌝ }
-{
-    let a = shapes::rows::answer_at(layouts, n, t);
-    match op {
-        ChainOp::AccessChain => a,
-        ChainOp::InBoundsAccessChain => a,
-        ChainOp::PtrAccessChain => rules::runtime_array(cfg, t, a),
-        ChainOp::InBoundsPtrAccessChain => rules::runtime_array(cfg, t, a),
-    }
-}
-
-// What a chain starts from, by its pointer.
-fn start_at(
-    cfg: LayoutConfig,
-    n: u32,
-    types: &[u32],
-    layouts: &[u32],
-    op: ChainOp,
-    ptr: u32,
-) -> Answer
-    ensures { λ r. ⌜ Says r (λ f. startBy cfg (pointeeAt (now (types .entry)) n) (λ u. answerBy f (answerAt (now (layouts .entry)) n u)) op ptr) ⌝ }
-{
-    match pointee_at(types, n, ptr) {
-        Pointee::Refused(e) => Answer::Refused(e),
-        Pointee::Type(t) => start_layout(cfg, layouts, n, op, t),
-    }
-}
-
-// The steps of a chain into the five lists, or the refusal and the lists as they were.
-pub fn lower_access_chain(
-    cfg: LayoutConfig,
-    n: u32,
-    types: &[u32],
-    layouts: &[u32],
-    offsets: &[u32],
-    members: &[u32],
-    op: ChainOp,
-    ptr: u32,
-    chain: &[u32],
-    kinds: &mut [u32],
-    bytes: &mut [u32],
-    bounds: &mut [u32],
-    marks: &mut [u32],
-    indices: &mut [u32],
-) -> Walk
-    ensures { λ r. ⌜ Wrote 0 (chainOver (roomOf (now (kinds .entry)) (now (bytes .entry)) (now (bounds .entry)) (now (marks .entry)) (now (indices .entry))) cfg n (now (types .entry)) (now (layouts .entry)) (now (offsets .entry)) (now (members .entry)) op ptr (now (chain .entry))) r (now (kinds .entry)) (now (bytes .entry)) (now (bounds .entry)) (now (marks .entry)) (now (indices .entry)) (now (kinds .exit)) (now (bytes .exit)) (now (bounds .exit)) (now (marks .exit)) (now (indices .exit)) ⌝ }
-{
-    if n <= ptr {
-        return Walk::Refused(1);
-    }
-    if 510 < chain.len() {
-        return Walk::Refused(2);
-    }
-    match start_at(cfg, n, types, layouts, op, ptr) {
-        Answer::Refused(e) => Walk::Refused(e),
-        Answer::Laid(l) => chain::lower_from(
-            layouts,
-            n,
-            offsets,
-            members,
-            chain,
-            l,
-            kinds,
-            bytes,
-            bounds,
-            marks,
-            indices,
-        ),
-    }
 }
 
 // ---- array length (OpArrayLength)

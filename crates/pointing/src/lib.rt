@@ -41,7 +41,7 @@ pub fn chain_line(
     let mut bounds = [0u32; 256];
     let mut marks = [0u32; 256];
     let mut indices = [0u32; 256];
-    match pointers::lower_access_chain(
+    match lowering::lower_access_chain(
         cfg,
         n,
         types,

@@ -9,10 +9,10 @@ use Rattle.laying.proofs.answers.Statement.{statement}
 use Rattle.laying.proofs.answers.Tie as tie
 
 abbrev Inv-loop : tie.InvT-loop
-Inv-loop sheet layouts n offsets members list₀ out₀ at₀ list out at = (at ≤ length sheet) × (length list ≡ length list₀) × (length out ≡ length out₀)
+Inv-loop sheet cfg n types layouts offsets members list₀ out₀ at₀ list out at = (at ≤ length sheet) × (length list ≡ length list₀) × (length out ≡ length out₀)
 
 abbrev μ-loop : tie.MeasureT-loop
-μ-loop sheet layouts n offsets members list₀ out₀ at₀ list out at = length sheet - at
+μ-loop sheet cfg n types layouts offsets members list₀ out₀ at₀ list out at = length sheet - at
 
 loop-holds : tie.Need-loop-holds Inv-loop μ-loop
 loop-holds c = search needs

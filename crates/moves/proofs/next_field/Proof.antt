@@ -1,6 +1,6 @@
 -- `moves::next_field` meets its contract: an index must be known, and a field of that number there. Assumes nothing.
 use Rattle.moves.specs.Moves.{hopOf}
-use Rattle.moves.proofs.Fields.{word-negative, word-past-offsets, word-past-types, word-there}
+use Rattle.lower.proofs.Fields.{word-negative, word-past-offsets, word-past-types, word-there}
 use borrow.Author.Needs.{needs}
 use Rattle.moves.proofs.next_field.Statement.{statement}
 use Rattle.moves.proofs.next_field.Tie as tie

@@ -1,5 +1,5 @@
 -- `pointers::field_at` meets its contract: a field by its place in both lists. Assumes nothing.
-use Rattle.moves.proofs.Fields.{field-there, no-offset, no-type}
+use Rattle.lower.proofs.Fields.{field-there, no-offset, no-type}
 use Rattle.pointers.specs.InCode.{asField}
 use borrow.Author.Needs.{needs}
 use Rattle.pointers.proofs.field_at.Statement.{statement}

@@ -1,14 +1,14 @@
--- `pointers::lower_access_chain` meets its contract: 1 and 2 before all else, then the start, and the walk from it. Assumes nothing.
+-- `lowering::lower_access_chain` meets its contract: 1 and 2 before all else, then the start, and the walk from it. Assumes nothing.
 use denote.Ref.{now}
 use Rattle.shapes.specs.Spans.{spansOf}
 use Rattle.chain.specs.Chains.{roomOf}
 use Rattle.moves.proofs.Writes.{refused-wrote}
-use Rattle.pointers.proofs.Chains.{no-such, too-long, no-start, from-start}
+use Rattle.lowering.proofs.Chains.{no-such, too-long, no-start, from-start}
 use borrow.Author.Needs.{needs}
-use Rattle.pointers.proofs.lower_access_chain.Statement.{statement}
-use Rattle.pointers.proofs.lower_access_chain.Tie as tie
+use Rattle.lowering.proofs.lower_access_chain.Statement.{statement}
+use Rattle.lowering.proofs.lower_access_chain.Tie as tie
 use Rattle.chain.proofs.lower_from.Reads as lower-from-reads
-use Rattle.pointers.proofs.start_at.Reads as start-at-reads
+use Rattle.lowering.proofs.start_at.Reads as start-at-reads
 
 returns : tie.Need-returns
 returns c = let a = c .before .before .before .before .before .before .before .before .before .before .before .args in

@@ -1,12 +1,12 @@
--- `pointers::start_at` meets its contract: the pointee, then the op. Assumes nothing.
+-- `lowering::start_at` meets its contract: the pointee, then the op. Assumes nothing.
 use mathlib.Core.Path.{sym, _∙_}
 use Rattle.arith.specs.Refusals.{_>>=_}
 use Rattle.pointers.proofs.Laws.{points-to, points-nowhere}
 use borrow.Author.Needs.{needs}
-use Rattle.pointers.proofs.start_at.Statement.{statement}
-use Rattle.pointers.proofs.start_at.Tie as tie
+use Rattle.lowering.proofs.start_at.Statement.{statement}
+use Rattle.lowering.proofs.start_at.Tie as tie
 use Rattle.pointers.proofs.pointee_at.Reads as pointee-at-reads
-use Rattle.pointers.proofs.start_layout.Reads as start-layout-reads
+use Rattle.lowering.proofs.start_layout.Reads as start-layout-reads
 
 pointee-at-requires : tie.Need-pointee-at-requires
 pointee-at-requires c κs = search needs

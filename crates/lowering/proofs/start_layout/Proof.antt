@@ -1,14 +1,14 @@
 use mathlib.Core.Path.{_∙_}
 use Rattle.shapes.specs.Spans.{answerBy}
 use Rattle.shapes.specs.Rows.{answerAt}
-use Rattle.pointers.proofs.Chains.{by-element}
--- `pointers::start_layout` meets its contract: by the op. Assumes nothing.
+use Rattle.lowering.proofs.Chains.{by-element}
+-- `lowering::start_layout` meets its contract: by the op. Assumes nothing.
 use Rattle.layout.specs.Arrays.{arrayLayout}
 use Rattle.layout.specs.Layouts.{runtimeArrayBy}
 use Rattle.lower.specs.Chain.{startLayout}
 use borrow.Author.Needs.{needs}
-use Rattle.pointers.proofs.start_layout.Statement.{statement}
-use Rattle.pointers.proofs.start_layout.Tie as tie
+use Rattle.lowering.proofs.start_layout.Statement.{statement}
+use Rattle.lowering.proofs.start_layout.Tie as tie
 use Rattle.rules.proofs.runtime_array.Reads as runtime-array-reads
 use Rattle.shapes.proofs.rows.answer_at.Reads as answer-at-reads
 
