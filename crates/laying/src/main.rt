@@ -24,14 +24,14 @@ fn write(out: &[u8], line: text::Answer) {
 }
 
 fn refusal(out: &mut [u8], n: u32) {
-    let line = printing::whole::put_refusal_line(out, n);
+    let line = fitting::put_refusal_line(out, n);
     write(out, line);
 }
 
 fn layout(layouts: &[u32], n: u32, offsets: &[u32], t: u32, out: &mut [u8]) {
     match shapes::rows::answer_at(layouts, n, t) {
         Answer::Laid(l) => {
-            let line = printing::whole::put_layout_line(out, l, offsets);
+            let line = fitting::put_layout_line(out, l, offsets);
             write(out, line);
         }
         Answer::Refused(e) => refusal(out, e),
@@ -42,8 +42,8 @@ fn equality(layouts: &[u32], n: u32, offsets: &[u32], t: u32, u: u32, out: &mut 
     match shapes::rows::answer_at(layouts, n, t) {
         Answer::Laid(a) => match shapes::rows::answer_at(layouts, n, u) {
             Answer::Laid(b) => {
-                let same = printing::equality::same_lines(a, b, offsets);
-                let line = printing::whole::put_equal_line(out, same);
+                let same = comparing::same_lines(a, b, offsets);
+                let line = fitting::put_equal_line(out, same);
                 write(out, line);
             }
             Answer::Refused(e) => refusal(out, e),
@@ -55,7 +55,7 @@ fn equality(layouts: &[u32], n: u32, offsets: &[u32], t: u32, u: u32, out: &mut 
 fn found(list: &[u32], count: usize, out: &mut [u8]) {
     if count <= 1024 {
         let part = shapes::rows::span(list, 0, count as u32);
-        let line = printing::whole::put_components_line(out, part);
+        let line = fitting::put_components_line(out, part);
         write(out, line);
     }
 }
@@ -95,7 +95,7 @@ fn steps(
     );
     match r {
         Walk::Steps(count) => {
-            let line = printing::whole::put_chain_line(
+            let line = fitting::put_chain_line(
                 out,
                 &kinds,
                 &bytes,
@@ -113,7 +113,7 @@ fn steps(
 fn length(answer: ArrayLength, out: &mut [u8]) {
     match answer {
         ArrayLength::Bytes { offset, stride } => {
-            let line = printing::whole::put_length_line(out, offset, stride);
+            let line = fitting::put_length_line(out, offset, stride);
             write(out, line);
         }
         ArrayLength::Refused(e) => refusal(out, e),
@@ -123,11 +123,11 @@ fn length(answer: ArrayLength, out: &mut [u8]) {
 fn variable(answer: Variable, out: &mut [u8]) {
     match answer {
         Variable::Fixed(m) => {
-            let line = printing::whole::put_variable_line(out, m);
+            let line = fitting::put_variable_line(out, m);
             write(out, line);
         }
         Variable::Other => {
-            let line = printing::whole::put_no_variable_line(out);
+            let line = fitting::put_no_variable_line(out);
             write(out, line);
         }
         Variable::Refused(e) => refusal(out, e),
