@@ -1,11 +1,9 @@
 -- The lines of a question and of those behind it. Assumes nothing.
-use Prim.Native.Nat.{ℕ, suc, _+_, _*_, _<_, _≤_, min}
+use Prim.Native.Nat.{ℕ, _+_, _*_, _≤_, min}
 use native.Mathlib.Omega.{arith}
 use mathlib.Core.Path.{_≡_, refl, sym, ap, _∙_, subst}
-use mathlib.Core.Bool.{Bool, true, false, cond}
 use mathlib.Core.List.{List, [], _∷_, _++_, append-assoc, append-nil}
-use lib.Dec.{leb}
-use lib.ListN.{length, take, drop, length-append}
+use lib.ListN.{length, drop, length-append}
 use lib.Seq.{take-at}
 use borrow.Author.Tests.{le-leb, lt-leb}
 use Rattle.arith.specs.Refusals.{Result}
@@ -14,7 +12,6 @@ use Rattle.spirv.specs.declared.Index.the-variants.{Known, Unknown}
 use Rattle.spirv.specs.Rows.{encodeIndex}
 use Rattle.spirv.specs.Questions.{Question}
 use Rattle.sheet.specs.Sheet.{indexCount, max-indices}
-use Rattle.sheet.specs.Tables.{over}
 use Rattle.lines.specs.declared.Ask.{Ask}
 use Rattle.lines.specs.declared.Ask.the-variants as ask
 use Rattle.lines.specs.Says.{countOf, questionOf, indexWords}

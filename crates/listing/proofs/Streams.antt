@@ -1,5 +1,5 @@
 -- Buffers of whole lines: their pieces add up to all lines, and each goes on where it holds the next line. Assumes nothing.
-use Prim.Native.Nat.{ℕ, suc, _+_, _<_, _≤_}
+use Prim.Native.Nat.{ℕ, suc, _+_, _≤_}
 use native.Mathlib.Omega.{arith}
 use mathlib.Core.Path.{_≡_, refl, sym, ap, _∙_, subst}
 use mathlib.Core.Bool.{Bool, true, false}
@@ -12,7 +12,7 @@ use Rattle.asking.specs.Questions.{questionsFrom}
 use Rattle.answers.specs.Lines.{Source, answerBy}
 use Rattle.answers.specs.Output.{linesBy}
 use Rattle.listing.specs.declared.Filled.{Filled}
-use Rattle.listing.specs.Listing.{answerable, linesFrom, FirstLine, Left, Fills, Streamed, last, then, Pieces, Advances}
+use Rattle.listing.specs.Listing.{answerable, linesFrom, FirstLine, Left, Fills, last, then, Pieces, Advances}
 use Rattle.listing.proofs.Laws.{lines-append}
 
 -- stores from a place on leave what stands before it

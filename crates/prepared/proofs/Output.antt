@@ -26,7 +26,7 @@ use Rattle.answering.specs.OfTables.{ofTables}
 use Rattle.agreed.proofs.OfSheet.{answers-of-sheet}
 use Rattle.listing.specs.Listing.{answerable, linesFrom}
 use Rattle.prepared.specs.declared.Ready.{Ready}
-use Rattle.prepared.specs.Prepared.{readInto, readyOf, laidInto, Prepares}
+use Rattle.prepared.specs.Prepared.{readInto, readyOf, laidInto}
 use Rattle.prepared.specs.Statements.{Roomy, Readied, ReadyAnswers, ReadyTables, ReadyRefused}
 
 -- ---- lines

@@ -1,15 +1,15 @@
 -- A buffer of 16,384 bytes always goes on. Assumes nothing.
 use Prim.Native.Nat.{ℕ, _≤_}
-use mathlib.Core.Path.{_≡_, refl, sym, ap, _∙_, subst}
+use mathlib.Core.Path.{_≡_, sym, ap, _∙_, subst}
 use mathlib.Core.List.{List, [], _∷_, _++_, append-assoc}
 use native.Mathlib.Omega.{arith}
 use lib.ListN.{length}
 use Rattle.spirv.specs.Questions.{Question}
-use Rattle.sheet.specs.Sheet.{Sheet, indexCount, max-indices}
+use Rattle.sheet.specs.Sheet.{indexCount, max-indices}
 use Rattle.sheet.specs.Statements.{All}
 use Rattle.asking.specs.Questions.{questionsFrom}
 use Rattle.asking.proofs.Run.{runs-through}
-use Rattle.answers.specs.Lines.{Source, answerBy, answer}
+use Rattle.answers.specs.Lines.{Source, answer}
 use Rattle.answers.specs.Output.{textOf}
 use Rattle.listing.specs.Listing.{answerable, FirstLine}
 use Rattle.listing.proofs.Streams.{advances}
