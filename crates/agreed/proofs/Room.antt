@@ -1,7 +1,7 @@
 -- No result of a sheet's tables is longer than the room that there is for it. Assumes nothing.
 use Prim.Native.Nat.{ℕ, _+_, _*_, _/_, _≤_}
 use native.Mathlib.Omega.{arith}
-use mathlib.Core.Path.{_≡_, refl, sym, ap, _∙_}
+use mathlib.Core.Path.{_≡_, refl, ap, _∙_}
 use mathlib.Core.Bool.{Bool, true, false, cond, _&&_, _||_}
 use mathlib.Core.List.{List, [], _∷_}
 use lib.Dec.{leb, eqb}
@@ -11,7 +11,7 @@ use Rattle.arith.specs.Refusals.{Result, ok, refused, _>>=_, _>>_, refuse_when_
 use Rattle.arith.specs.Numbers.{max-u32}
 use Rattle.arith.proofs.Results.{never, value-is, went, passed}
 use Rattle.shapes.specs.Shapes as def
-use Rattle.shapes.specs.Spans.{spansOf, partsBy, layoutBy, answerOver}
+use Rattle.shapes.specs.Spans.{spansOf, partsBy, answerOver}
 use Rattle.shapes.specs.Rows.{answerAt}
 use Rattle.shapes.specs.declared.Components.{Components}
 use Rattle.shapes.specs.declared.Components.the-variants.{Scalar, Elements, Fields}

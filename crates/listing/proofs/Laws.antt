@@ -1,19 +1,17 @@
 -- The lines of a question and of those behind it. Assumes nothing.
-use Prim.Native.Nat.{ℕ, suc, _+_, _*_, _<_, _≤_, min}
+use Prim.Native.Nat.{ℕ, _+_, _*_, _≤_, min}
 use native.Mathlib.Omega.{arith}
 use mathlib.Core.Path.{_≡_, refl, sym, ap, _∙_, subst}
-use mathlib.Core.Bool.{Bool, true, false, cond}
-use mathlib.Core.List.{List, [], _∷_, _++_}
-use lib.Dec.{leb}
-use lib.ListN.{length, take, drop, length-append}
+use mathlib.Core.List.{List, [], _∷_, _++_, append-assoc, append-nil}
+use lib.ListN.{length, drop, length-append}
 use lib.Seq.{take-at}
 use borrow.Author.Tests.{le-leb, lt-leb}
+use Rattle.arith.specs.Refusals.{Result}
 use Rattle.spirv.specs.declared.Index.{Index}
 use Rattle.spirv.specs.declared.Index.the-variants.{Known, Unknown}
 use Rattle.spirv.specs.Rows.{encodeIndex}
 use Rattle.spirv.specs.Questions.{Question}
 use Rattle.sheet.specs.Sheet.{indexCount, max-indices}
-use Rattle.sheet.specs.Tables.{over}
 use Rattle.lines.specs.declared.Ask.{Ask}
 use Rattle.lines.specs.declared.Ask.the-variants as ask
 use Rattle.lines.specs.Says.{countOf, questionOf, indexWords}
@@ -21,7 +19,7 @@ use Rattle.asking.specs.declared.NextQuestion.{NextQuestion}
 use Rattle.asking.specs.declared.NextQuestion.the-variants as next
 use Rattle.asking.specs.Questions.{questionsFrom, Next, Short, Ended, Steps}
 use Rattle.moves.specs.Moves.{indicesIn}
-use Rattle.answers.specs.Lines.{Source, answerBy}
+use Rattle.answers.specs.Lines.{AnswerLine, Source, answerBy}
 use Rattle.answers.specs.Output.{textOf, linesBy}
 use Rattle.pointing.specs.Pointing.{chainWords}
 use Rattle.answering.specs.OfTables.{questionIn}
@@ -69,12 +67,19 @@ module _ {sheet : List ℕ} {at n : ℕ} {a : Ask} {old new : List ℕ} (x : Nex
   unfolding answerable
   first-question = rw (x .first, le-leb (indexCount (questionOf a (x .indices))) max-indices (omega (arith, count-as a (x .indices) (x .count), few-indices)), is-question)
 
-  pub its-line : (s : Source) → linesFrom s sheet at ≡ textOf (answerBy s (questionIn a new)) ++ linesFrom s sheet n
-  unfolding linesBy
-  its-line s = ap (linesBy (answerBy s)) first-question
-
   pub line-first : (s : Source) → FirstLine s sheet at (textOf (answerBy s (questionIn a new)))
   line-first s = record { question = questionIn a new; rest = answerable (questionsFrom sheet n); first = first-question; is = refl }
+
+-- ---- lines of many questions
+
+pub lines-append : (f : Question → Result AnswerLine) (a b : List Question) → linesBy f (a ++ b) ≡ linesBy f a ++ linesBy f b
+unfolding linesBy
+lines-append f [] b = refl
+lines-append f (q ∷ a) b = ap (λ (l : List ℕ). textOf (f q) ++ l) (lines-append f a b) ∙ sym (append-assoc (textOf (f q)) (linesBy f a) (linesBy f b))
+
+pub one-line : (f : Question → Result AnswerLine) (q : Question) → linesBy f (q ∷ []) ≡ textOf (f q)
+unfolding linesBy
+one-line f q = append-nil (textOf (f q))
 
 -- ---- no more
 

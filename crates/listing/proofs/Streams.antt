@@ -1,5 +1,5 @@
 -- Buffers of whole lines: their pieces add up to all lines, and each goes on where it holds the next line. Assumes nothing.
-use Prim.Native.Nat.{ℕ, suc, _+_, _<_, _≤_}
+use Prim.Native.Nat.{ℕ, suc, _+_, _≤_}
 use native.Mathlib.Omega.{arith}
 use mathlib.Core.Path.{_≡_, refl, sym, ap, _∙_, subst}
 use mathlib.Core.Bool.{Bool, true, false}
@@ -8,9 +8,12 @@ use mathlib.Core.Logic.{⊎-elim}
 use lib.ListN.{length, take, drop, set}
 use lib.Seq.{sets, sets-eq, take-at, take-set-le}
 use Rattle.text.proofs.Laws.{sets-append}
-use Rattle.answers.specs.Lines.{Source}
+use Rattle.asking.specs.Questions.{questionsFrom}
+use Rattle.answers.specs.Lines.{Source, answerBy}
+use Rattle.answers.specs.Output.{linesBy}
 use Rattle.listing.specs.declared.Filled.{Filled}
-use Rattle.listing.specs.Listing.{linesFrom, FirstLine, Left, Fills, Streamed, last, then, Pieces, Advances}
+use Rattle.listing.specs.Listing.{answerable, linesFrom, FirstLine, Left, Fills, last, then, Pieces, Advances}
+use Rattle.listing.proofs.Laws.{lines-append}
 
 -- stores from a place on leave what stands before it
 before-sets : (l : List ℕ) (k i : ℕ) (vs : List ℕ) → k ≤ i → take k (sets l i vs) ≡ take k l
@@ -25,26 +28,35 @@ in-front old text tried h =
     ∙ take-at text (drop (0 + length text) old) (length text) refl
 
 module _ {x : Source} {sheet : List ℕ} {from : ℕ} {r : Filled} {old new : List ℕ} (f : Fills x sheet from r old new) where
-  pub whole-lines : take (r .bytes) new ≡ f .text
-  whole-lines = rw (f .bytes, f .list) (in-front old (f .text) (f .tried) (omega (arith, f .bytes, f .fits)))
+  abbrev text : List ℕ
+  text = linesBy (answerBy x) (f .done)
+
+  pub whole-lines : take (r .bytes) new ≡ text
+  whole-lines = rw (f .bytes, f .list) (in-front old text (f .tried) (omega (arith, f .bytes, f .fits)))
+
+  all-lines : text ++ linesFrom x sheet (r .next) ≡ linesFrom x sheet from
+  all-lines = sym (lines-append (answerBy x) (f .done) (answerable (questionsFrom sheet (r .next)))) ∙ ap (linesBy (answerBy x)) (f .asked)
 
   nothing-left : r .more ≡ false → linesFrom x sheet (r .next) ≡ []
-  nothing-left e = by (subst (λ (m : Bool). Left x sheet (r .next) (length old) m (f .text) (f .tried)) e (f .left))
+  nothing-left e = by (subst (λ (m : Bool). Left x sheet (r .next) (length old) m text (f .tried)) e (f .left))
     where
-      by : Left x sheet (r .next) (length old) false (f .text) (f .tried) → linesFrom x sheet (r .next) ≡ []
+      by : Left x sheet (r .next) (length old) false text (f .tried) → linesFrom x sheet (r .next) ≡ []
       by l = l .0
 
 pub pieces : Pieces
 pieces x sheet from text (last {r = r} f e) =
-    whole-lines f ∙ sym (append-nil (f .text)) ∙ ap (λ (l : List ℕ). f .text ++ l) (sym (nothing-left f e)) ∙ f .pieces
+    whole-lines f
+    ∙ sym (append-nil (linesBy (answerBy x) (f .done)))
+    ∙ ap (λ (l : List ℕ). linesBy (answerBy x) (f .done) ++ l) (sym (nothing-left f e))
+    ∙ all-lines f
 pieces x sheet from text (then {r = r} {rest = rest} f e s) =
-    ap (λ (l : List ℕ). l ++ rest) (whole-lines f) ∙ ap (λ (l : List ℕ). f .text ++ l) (pieces x sheet (r .next) rest s) ∙ f .pieces
+    ap (λ (l : List ℕ). l ++ rest) (whole-lines f) ∙ ap (λ (l : List ℕ). linesBy (answerBy x) (f .done) ++ l) (pieces x sheet (r .next) rest s) ∙ all-lines f
 
 pub advances : Advances
 advances x sheet from r old new f e room = ⊎-elim (λ m. absurd (stuck m)) (λ m. m .0) (f .moved)
   where
-    left : Left x sheet (r .next) (length old) true (f .text) (f .tried)
-    left = subst (λ (m : Bool). Left x sheet (r .next) (length old) m (f .text) (f .tried)) e (f .left)
+    left : Left x sheet (r .next) (length old) true (linesBy (answerBy x) (f .done)) (f .tried)
+    left = subst (λ (m : Bool). Left x sheet (r .next) (length old) m (linesBy (answerBy x) (f .done)) (f .tried)) e (f .left)
 
     stuck : (r .next ≡ from) × (r .bytes ≡ 0) → ⊥
     stuck m =

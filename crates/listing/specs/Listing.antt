@@ -43,15 +43,15 @@ Left x sheet at room false text tried = (linesFrom x sheet at ≡ []) × (tried 
 abbrev pub Moved : (sheet : List ℕ) (from next bytes : ℕ) → Type 0
 Moved sheet from next bytes = ((next ≡ from) × (bytes ≡ 0)) ⊎ ((from < next) × (next ≤ length sheet))
 
--- the lines in front of the buffer, with those from `next` on, are all lines from `from` on
+-- so many bytes in front of the buffer are the lines of questions that, with those from `next` on, are all from `from` on
 pub record Fills (x : Source) (sheet : List ℕ) (from : ℕ) (r : Filled) (old new : List ℕ) : Type 0 where
-  pub text : List ℕ
+  pub done : List Question
   pub tried : List ℕ
-  pub bytes : r .bytes ≡ length text
+  pub bytes : r .bytes ≡ length (linesBy (answerBy x) done)
   pub fits : r .bytes ≤ length old
-  pub pieces : text ++ linesFrom x sheet (r .next) ≡ linesFrom x sheet from
-  pub list : new ≡ sets old 0 (text ++ tried)
-  pub left : Left x sheet (r .next) (length old) (r .more) text tried
+  pub asked : done ++ answerable (questionsFrom sheet (r .next)) ≡ answerable (questionsFrom sheet from)
+  pub list : new ≡ sets old 0 (linesBy (answerBy x) done ++ tried)
+  pub left : Left x sheet (r .next) (length old) (r .more) (linesBy (answerBy x) done) tried
   pub moved : Moved sheet from (r .next) (r .bytes)
 
 -- what the buffers hold of which the last says that there are no more, each from where the one before it ended

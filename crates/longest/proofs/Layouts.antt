@@ -1,15 +1,14 @@
 -- Every number of a layout of a sheet that was read has 32 bits. Assumes nothing.
-use Prim.Native.Nat.{ℕ, _*_, _/_, _≤_, _<_}
+use Prim.Native.Nat.{ℕ, _/_, _≤_, _<_}
 use native.Mathlib.Omega.{arith}
 use native.Mathlib.Nat.{div-le-self}
-use mathlib.Core.Path.{_≡_, refl, sym, ap, _∙_, subst}
+use mathlib.Core.Path.{_≡_, sym, _∙_, subst}
 use mathlib.Core.Bool.{Bool, true, false}
 use mathlib.Core.List.{List, [], _∷_}
-use mathlib.Core.Logic.{inl, inr, ⊎-elim}
+use mathlib.Core.Logic.{⊎-elim}
 use mathlib.Core.Option.{Option, none, some}
 use lib.ListN.{length, getElem?}
-use Rattle.arith.specs.Refusals.{Result, ok, refused}
-use Rattle.arith.specs.Numbers.{max-u32}
+use Rattle.arith.specs.Refusals.{ok}
 use Rattle.arith.proofs.Results.{never, value-is, went, passed, fit-is}
 use Rattle.spirv.specs.declared.Length.the-variants.{Fixed, Specialization}
 use Rattle.spirv.specs.declared.Stride.{Stride}
@@ -22,14 +21,13 @@ use Rattle.shapes.specs.declared.LayoutConfig.{LayoutConfig}
 use Rattle.shapes.specs.Shapes.{MemTypeLayout, TypeLayout, Handle, HandleArray, Concrete, sizeOf, alignOf, legacyOf, dynOf}
 use Rattle.sheet.specs.Sheet.{Sheet, memberCount, max-members}
 use Rattle.sheet.specs.Statements.{Fits, All, FitsStride, FitsType, FitsSetting, GoodSheet}
-use Rattle.sheet.specs.Tables.{membersWords}
 use Rattle.sheet.proofs.Tables.{members-length, spans}
-use Rattle.layout.specs.Arrays.{Answer, rounded, lengthOrZero, strideWithout, strideOf, numberLayout, ArrayParams, arrayLayout, vectorParams, fixedParams, runtimeParams}
+use Rattle.layout.specs.Arrays.{Answer, rounded, lengthOrZero, strideWithout, strideOf, numberLayout, ArrayParams, vectorParams, fixedParams, runtimeParams}
 use Rattle.layout.specs.Structs.{blockOr}
 use Rattle.layout.specs.Layouts.{Rule, ofSetting, ofWidth, ofElements, ofMembers, ofHandle, noLayout, ruleOf, byRule, layoutOf, answerIn, runtimeArrayBy}
-use Rattle.layout.proofs.OfElements.{OfElements, ArrayIs, array-is}
-use Rattle.layout.proofs.OfMembers.{Laid, Ends, largest, OfMembers, StructIs, struct-is, same-length}
-use Rattle.layout.proofs.InSheet.{MadeIn, laid-in, decl-there}
+use Rattle.layout.proofs.OfElements.{ArrayIs, array-is}
+use Rattle.layout.proofs.OfMembers.{Laid, Ends, largest, OfMembers, struct-is, same-length}
+use Rattle.layout.proofs.InSheet.{laid-in, decl-there}
 use Rattle.longest.specs.Statements.{FitsParts, FitsMemory, FitsLayout, LayoutsFit}
 
 -- ---- what a rule brings

@@ -2,20 +2,17 @@
 use Prim.Native.Nat.{ℕ, suc, _+_, _*_, _≤_}
 use Prim.Native.Char.{code}
 use native.Mathlib.Omega.{arith}
-use mathlib.Core.Path.{_≡_, refl}
-use mathlib.Core.Bool.{Bool, true, false, cond}
+use mathlib.Core.Path.{_≡_}
+use mathlib.Core.Bool.{true}
 use mathlib.Core.List.{List, [], _∷_, _++_, map}
-use mathlib.Core.Option.{Option, none, some}
 use lib.IntN.{ℤ, pos, negsuc}
 use lib.ListN.{length, length-append}
 use borrow.Author.Tests.{leb-true}
 use Rattle.arith.specs.Numbers.{max-i32, isI32}
-use Rattle.decimal.specs.Text.{bytes}
 use Rattle.decimal.specs.Decimal.{decimal, signedDecimal}
 use Rattle.decimal.proofs.BothWays.{ten-digits}
 use Rattle.spirv.specs.declared.Index.{Index}
 use Rattle.spirv.specs.declared.Index.the-variants.{Known, Unknown}
-use Rattle.shapes.specs.declared.MemLayout.{MemLayout}
 use Rattle.shapes.specs.Shapes.{Components, Scalar, Elements, Fields, Opaque, Buffer, MemTypeLayout, TypeLayout, Handle, HandleArray, Concrete, sizeOf, alignOf, legacyOf, dynOf}
 use Rattle.sheet.specs.Statements.{Fits, All, FitsIndex}
 use Rattle.lower.specs.declared.QPtrOp.{QPtrOp}

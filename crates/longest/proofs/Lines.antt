@@ -1,16 +1,16 @@
 -- No answer line of a sheet is longer than 16,384 bytes. Assumes nothing.
-use Prim.Native.Nat.{ℕ, suc, _+_, _*_, _/_, _≤_}
+use Prim.Native.Nat.{ℕ, _+_, _*_, _/_, _≤_}
 use native.Mathlib.Omega.{arith}
 use native.Mathlib.Nat.{div-le-self}
-use mathlib.Core.Path.{_≡_, refl, sym, ap, _∙_, subst}
+use mathlib.Core.Path.{_≡_, refl, ap, subst}
 use mathlib.Core.Bool.{Bool, true, false, cond, _&&_, _||_}
-use mathlib.Core.List.{List, [], _∷_, _++_, map}
-use mathlib.Core.Logic.{_⊎_, inl, inr, ⊎-elim}
+use mathlib.Core.List.{List, [], _∷_, map}
+use mathlib.Core.Logic.{_⊎_, inl, ⊎-elim}
 use mathlib.Core.Option.{Option, none, some}
 use lib.Dec.{leb, eqb}
-use lib.ListN.{length, getElem?}
+use lib.ListN.{length}
 use borrow.Author.Tests.{leb-true}
-use Rattle.arith.specs.Refusals.{Result, ok, refused, _>>=_}
+use Rattle.arith.specs.Refusals.{Result, ok, refused}
 use Rattle.arith.specs.Numbers.{max-u32}
 use Rattle.arith.proofs.Results.{never, value-is, went, passed, first-true, second-true}
 use Rattle.decimal.specs.Text.{bytes}
@@ -18,23 +18,20 @@ use Rattle.decimal.specs.Decimal.{decimal}
 use Rattle.decimal.proofs.BothWays.{ten-digits}
 use Rattle.spirv.specs.Questions.{Question}
 use Rattle.shapes.specs.declared.MemLayout.{MemLayout}
-use Rattle.shapes.specs.Shapes.{Components, Scalar, Elements, Fields, Opaque, Buffer, MemTypeLayout, TypeLayout, Handle, HandleArray, Concrete, sizeOf, alignOf, legacyOf, runtimeSized}
-use Rattle.sheet.specs.Sheet.{Sheet, max-members}
+use Rattle.shapes.specs.Shapes.{Components, Scalar, Elements, Fields, Buffer, MemTypeLayout, TypeLayout, Handle, HandleArray, Concrete, sizeOf, alignOf, legacyOf, runtimeSized}
+use Rattle.sheet.specs.Sheet.{Sheet}
 use Rattle.sheet.specs.Statements.{Fits, All, FitsQuestion, GoodSheet}
 use Rattle.sheet.proofs.GoodSheet.{reads-good}
 use Rattle.layout.specs.Arrays.{Answer}
 use Rattle.layout.specs.Layouts.{answerIn}
 use Rattle.layout.specs.Lookup.{sizeAtIndex, elementHolding, fieldHolds, memoryPasses, fieldsHolding, sizeOfPart, componentsContaining, inMemoryOnly, lookupBy, lookup}
 use Rattle.layout.specs.Statements.{Has}
-use Rattle.lower.specs.declared.QPtrOp.{QPtrOp}
 use Rattle.lower.specs.Chain.{lowerChain}
-use Rattle.lower.specs.Steps.{Field}
 use Rattle.lower.specs.Other.{ArrayLength, arrayLength, variableBy, localVariable, fixedMemory}
-use Rattle.lower.specs.Statements.{LengthOf}
 use Rattle.lower.proofs.Other.{array-lengths}
 use Rattle.lower.proofs.StepsFit.{steps-fit}
-use Rattle.answers.specs.Lines.{AnswerLine, layoutLine, sameLine, equalLine, stepsFields, lengthLine, variableLine, answerBy, answer, resultLine}
-use Rattle.answers.specs.Output.{printed, textOf}
+use Rattle.answers.specs.Lines.{AnswerLine, layoutLine, sameLine, equalLine, lengthLine, variableLine, answerBy, answer, resultLine}
+use Rattle.answers.specs.Output.{textOf}
 use Rattle.promise.specs.Table.{refusalsOf}
 use Rattle.promise.proofs.Table.{table-numbers}
 use Rattle.longest.specs.Statements.{FitsParts, FitsMemory, FitsLayout, longest, LongestLine}

@@ -6,7 +6,7 @@ use mathlib.Core.Option.{Option, none, some}
 use Rattle.arith.specs.Refusals.{Result, ok, refused}
 use Rattle.shapes.specs.declared.MemLayout.{MemLayout}
 use Rattle.lower.specs.Other as other
-use Rattle.pointers.specs.InCode.{asLength, asMemory, asVariable}
+use Rattle.pointers.specs.InCode.{asLength, asVariable}
 use Rattle.pointers.specs.declared.ArrayLength.{ArrayLength}
 use Rattle.pointers.specs.declared.Variable.{Variable}
 

@@ -20,14 +20,14 @@ use Rattle.asking.specs.Questions.{questionsFrom}
 use Rattle.asking.proofs.Run.{runs-through}
 use Rattle.laid.specs.Statements.{Tables, answersOf, offsetsOf}
 use Rattle.laid.proofs.OfSheet.{sheet-tables}
-use Rattle.answers.specs.Lines.{AnswerLine, answerBy, answer}
+use Rattle.answers.specs.Lines.{AnswerLine, Source, answerBy, answer}
 use Rattle.answers.specs.Output.{linesBy, answerLines, outputOf, layOutput}
 use Rattle.answering.specs.OfTables.{ofTables}
 use Rattle.agreed.proofs.OfSheet.{answers-of-sheet}
 use Rattle.listing.specs.Listing.{answerable, linesFrom}
 use Rattle.prepared.specs.declared.Ready.{Ready}
-use Rattle.prepared.specs.Prepared.{readInto, readyOf, laidInto, Prepares}
-use Rattle.prepared.specs.Statements.{Roomy, ReadyTables, ReadyRefused}
+use Rattle.prepared.specs.Prepared.{readInto, readyOf, laidInto}
+use Rattle.prepared.specs.Statements.{Roomy, Readied, ReadyAnswers, ReadyTables, ReadyRefused}
 
 -- ---- lines
 
@@ -41,16 +41,14 @@ unfolding linesBy
 same-lines f g [] h = refl
 same-lines f g (q ∷ qs) h = rw (h .0, same-lines f g qs (h .1))
 
--- over the tables of a sheet
-lines-of-sheet : (input : List ℕ) (s : Sheet) → readSheet input ≡ ok s → (types members given offsets rest : List ℕ) → Tables (s .types) types members given (length offsets)
-    → length (offsetsOf s types members given offsets) ≤ max-members
-    → linesFrom (ofTables (s .setting) (length (s .types)) types (flat (answersOf s types members given offsets) ++ rest) (offsetsOf s types members given offsets) members) input 0 ≡ answerLines s (s .questions)
-lines-of-sheet input s e types members given offsets rest tables few =
-    let x = ofTables (s .setting) (length (s .types)) types (flat (answersOf s types members given offsets) ++ rest) (offsetsOf s types members given offsets) members in
-    let run = runs-through input s e in
-    ap (λ (qs : List Question). linesBy (answerBy x) (answerable qs)) (run .questions)
-    ∙ ap (linesBy (answerBy x)) (all-answerable (s .questions) (run .few))
-    ∙ same-lines (answerBy x) (answer s) (s .questions) (all-wider (λ q h. answers-of-sheet s types members given offsets rest tables few q h) (s .questions) (run .few))
+-- of a sheet that is read all questions are answered
+pub all-asked : (input : List ℕ) (s : Sheet) → readSheet input ≡ ok s → answerable (questionsFrom input 0) ≡ s .questions
+all-asked input s e = let run = runs-through input s e in ap answerable (run .questions) ∙ all-answerable (s .questions) (run .few)
+
+lines-of-sheet : (input : List ℕ) (x : Source) (r : Readied input x) → linesFrom x input 0 ≡ answerLines (r .sheet) (r .sheet .questions)
+lines-of-sheet input x r =
+    ap (linesBy (answerBy x)) (all-asked input (r .sheet) (r .read))
+    ∙ same-lines (answerBy x) (answer (r .sheet)) (r .sheet .questions) (all-wider (r .same) (r .sheet .questions) (runs-through input (r .sheet) (r .read) .few))
 
 -- ---- room
 
@@ -86,11 +84,10 @@ ready-refused input r ty me os la ty′ me′ os′ la′ x roomy n e = by (read
     by (refused m) h = let z : m ≡ n = cc in ap (λ (k : ℕ). outputOf (refused k)) z
     by (ok s) h = absurd (let z : _≡_ {A = ℕ} 0 1 = cc in omega arith)
 
-pub ready-tables : ReadyTables
-unfolding layOutput
-ready-tables input r ty me os la ty′ me′ os′ la′ x roomy few cfg n e = by (readSheet input) refl
+pub ready-answers : ReadyAnswers
+ready-answers input r ty me os la ty′ me′ os′ la′ x roomy few cfg n e = by (readSheet input) refl
   where
-    by : (o : Result Sheet) → readSheet input ≡ o → linesFrom (ofTables cfg n ty′ la′ os′ me′) input 0 ≡ outputOf o
+    by : (o : Result Sheet) → readSheet input ≡ o → Readied input (ofTables cfg n ty′ la′ os′ me′)
     by (refused m) h =
         absurd (let t : Ready.Tables cfg n ≡ Ready.Refused m = sym e ∙ (x .says ∙ ap readyOf (enough input ty me os la roomy ∙ h)) in let z : _≡_ {A = ℕ} 0 1 = cc in omega arith)
     by (ok s) h =
@@ -105,4 +102,14 @@ ready-tables input r ty me os la ty′ me′ os′ la′ x roomy few cfg n e = b
         let laid = x .laid ∙ (ap (λ (z : Result Sheet). laidInto z ty′ me′ os la) o ∙ layouts-fit input ty me os la roomy s h ty′ me′ given) in
         let offsets : os′ ≡ offsetsOf s ty′ me′ given os = ap (λ (p : List ℕ × List ℕ). p .0) laid in
         let layouts : la′ ≡ flat (answersOf s ty′ me′ given os) ++ drop (10 * length (s .types)) la = ap (λ (p : List ℕ × List ℕ). p .1) laid in
-        rw (setting, count, layouts, offsets) (lines-of-sheet input s h ty′ me′ given os (drop (10 * length (s .types)) la) tables (rw offsets at few))
+        record {
+          sheet = s;
+          read = h;
+          same = λ q short. rw (setting, count, layouts, offsets) (answers-of-sheet s ty′ me′ given os (drop (10 * length (s .types)) la) tables (rw offsets at few) q short);
+        }
+
+pub ready-tables : ReadyTables
+unfolding layOutput
+ready-tables input r ty me os la ty′ me′ os′ la′ x roomy few cfg n e =
+    let a = ready-answers input r ty me os la ty′ me′ os′ la′ x roomy few cfg n e in
+    lines-of-sheet input (ofTables cfg n ty′ la′ os′ me′) a ∙ ap outputOf (sym (a .read))

@@ -16,7 +16,7 @@ use Rattle.records.specs.declared.Filling.{Filling}
 use Rattle.records.specs.Records.{filling}
 use Rattle.joined.proofs.Made.{setting-back}
 use Rattle.prepared.specs.declared.Ready.{Ready}
-use Rattle.prepared.specs.Prepared.{readInto, readyOf, laidInto, Prepares}
+use Rattle.prepared.specs.Prepared.{readInto, Prepares}
 
 -- ---- read
 

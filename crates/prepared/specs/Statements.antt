@@ -3,9 +3,11 @@ use Prim.Native.Nat.{ℕ, _≤_}
 use mathlib.Core.Path.{_≡_}
 use mathlib.Core.List.{List}
 use lib.ListN.{length}
-use Rattle.arith.specs.Refusals.{refused}
+use Rattle.arith.specs.Refusals.{ok, refused}
 use Rattle.shapes.specs.declared.LayoutConfig.{LayoutConfig}
-use Rattle.sheet.specs.Sheet.{max-members}
+use Rattle.spirv.specs.Questions.{Question}
+use Rattle.sheet.specs.Sheet.{Sheet, indexCount, max-indices, max-members, readSheet}
+use Rattle.answers.specs.Lines.{Source, answerBy, answer}
 use Rattle.answers.specs.Output.{textOf, layOutput}
 use Rattle.answering.specs.OfTables.{ofTables}
 use Rattle.listing.specs.Listing.{linesFrom}
@@ -17,6 +19,17 @@ pub record Roomy (ty me os la : List ℕ) : Type 0 where
   pub members : 1024 ≤ length me
   pub offsets : length os ≡ 1024
   pub layouts : 2560 ≤ length la
+
+-- tables that answer each question of at most 255 indices as the sheet that the bytes are does
+pub record Readied (input : List ℕ) (x : Source) : Type 0 where
+  pub sheet : Sheet
+  pub read : readSheet input ≡ ok sheet
+  pub same : (q : Question) → indexCount q ≤ max-indices → answerBy x q ≡ answer sheet q
+
+abbrev pub ReadyAnswers : Type 0
+ReadyAnswers =
+    (input : List ℕ) (r : Ready) (ty me os la ty′ me′ os′ la′ : List ℕ) → Prepares input r ty me os la ty′ me′ os′ la′ → Roomy ty me os la → length os′ ≤ max-members
+    → (cfg : LayoutConfig) (n : ℕ) → r ≡ Ready.Tables cfg n → Readied input (ofTables cfg n ty′ la′ os′ me′)
 
 abbrev pub ReadyTables : Type 0
 ReadyTables =

@@ -8,7 +8,7 @@ use lib.ListN.{length, take, drop, length-append}
 use lib.Seq.{sets, sets-eq, take-at}
 use borrow.Author.Tests.{ltb-false}
 use Rattle.arith.specs.Pairs.{both}
-use Rattle.arith.specs.Refusals.{Result, ok, refused, _>>_, refuse_when_, short-list, inRoom}
+use Rattle.arith.specs.Refusals.{Result, ok, refused, refuse_when_, short-list, inRoom}
 use Rattle.arith.proofs.Results.{went, value-is, passed, not-met}
 use Rattle.components.specs.Found.{lookupBoth, answeredIn}
 use Rattle.components.specs.declared.Lookup.{Lookup}
