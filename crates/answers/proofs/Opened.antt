@@ -10,5 +10,5 @@ use Rattle.answers.specs.Lines as lines
 use Rattle.answers.specs.Output as output
 
 unfoldable pub opened : Unit {0}
-unfolding of-arith.opened of-decimal.opened of-spirv.opened of-shapes.opened of-sheet.opened of-layout.opened of-lower.opened lines.layoutLine lines.answer output.printed output.layOutput
+unfolding of-arith.opened of-decimal.opened of-spirv.opened of-shapes.opened of-sheet.opened of-layout.opened of-lower.opened lines.layoutLine lines.answerBy output.printed output.linesBy output.layOutput
 opened = tt

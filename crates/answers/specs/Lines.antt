@@ -9,12 +9,14 @@ use lib.IntN.{ℤ}
 use Rattle.arith.specs.Refusals.{Result, ok, refused, _>>=_}
 use Rattle.decimal.specs.Text.{bytes, same}
 use Rattle.decimal.specs.Decimal.{decimal, signedDecimal}
+use Rattle.spirv.specs.declared.ChainOp.{ChainOp}
 use Rattle.spirv.specs.declared.Index.{Index}
 use Rattle.spirv.specs.declared.Index.the-variants.{Known, Unknown}
 use Rattle.spirv.specs.Questions.{Question}
 use Rattle.shapes.specs.declared.MemLayout.{MemLayout}
 use Rattle.shapes.specs.Shapes.{Components, Scalar, Elements, Fields, HandleLayout, Opaque, Buffer, MemTypeLayout, TypeLayout, Handle, HandleArray, Concrete, sizeOf, alignOf, legacyOf, dynOf}
 use Rattle.sheet.specs.Sheet.{Sheet}
+use Rattle.layout.specs.Arrays.{Answer}
 use Rattle.layout.specs.Lookup.{lookup}
 use Rattle.lower.specs.declared.QPtrOp.{QPtrOp}
 use Rattle.lower.specs.declared.QPtrOp.the-variants.{HandleArrayIndex, BufferData, Offset, DynOffset}
@@ -86,26 +88,41 @@ variableLine (some m) = bytes "x" ∷ decimal (m .size) ∷ decimal (m .align) �
 
 -- ---- any question
 
-unfoldable pub answer : Sheet → Question → Result AnswerLine
-answer s (Question.T t) = do
-  l ← answerIn s t
+-- what answers questions, by their letters: T and E, Q, C, L, X
+pub record Source : Type 0 where
+  pub layout : ℕ → Answer
+  pub components : (type start end : ℕ) → Result (List ℕ)
+  pub steps : ChainOp → (ptr : ℕ) → List Index → Result (List QPtrOp)
+  pub length : (ptr member : ℕ) → Result ArrayLength
+  pub memory : (ptr : ℕ) → Result (Option MemLayout)
+
+unfoldable pub answerBy : Source → Question → Result AnswerLine
+answerBy x (Question.T t) = do
+  l ← x .layout t
   ok (layoutLine l)
-answer s (Question.E first second) = do
-  a ← answerIn s first
-  b ← answerIn s second
+answerBy x (Question.E first second) = do
+  a ← x .layout first
+  b ← x .layout second
   ok (equalLine a b)
-answer s (Question.Q t start end) = do
-  found ← lookup s t start end
+answerBy x (Question.Q t start end) = do
+  found ← x .components t start end
   ok (bytes "q" ∷ map decimal found)
-answer s (Question.C op ptr indices) = do
-  steps ← lowerChain s op ptr indices
+answerBy x (Question.C op ptr indices) = do
+  steps ← x .steps op ptr indices
   ok (bytes "c" ∷ stepsFields steps)
-answer s (Question.L ptr member) = do
-  a ← arrayLength s ptr member
+answerBy x (Question.L ptr member) = do
+  a ← x .length ptr member
   ok (lengthLine a)
-answer s (Question.X ptr) = do
-  m ← localVariable s ptr
+answerBy x (Question.X ptr) = do
+  m ← x .memory ptr
   ok (variableLine m)
+
+abbrev pub ofSheet : Sheet → Source
+ofSheet s = record { layout = answerIn s; components = lookup s; steps = lowerChain s; length = arrayLength s; memory = localVariable s }
+
+-- by what the sheet says
+abbrev pub answer : Sheet → Question → Result AnswerLine
+answer s q = answerBy (ofSheet s) q
 
 -- the line of a result; a refusal is `e,number`
 abbrev pub resultLine : Result AnswerLine → AnswerLine

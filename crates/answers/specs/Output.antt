@@ -13,13 +13,21 @@ printed [] = code "\n" ∷ []
 printed (f ∷ []) = f ++ (code "\n" ∷ [])
 printed (f ∷ g ∷ gs) = f ++ (code "," ∷ printed (g ∷ gs))
 
+-- the text of a result
+abbrev pub textOf : Result AnswerLine → List ℕ
+textOf r = printed (resultLine r)
+
+-- a line per question
+unfoldable pub linesBy : (answer-of : Question → Result AnswerLine) → List Question → List ℕ
+linesBy answer-of [] = []
+linesBy answer-of (q ∷ qs) = textOf (answer-of q) ++ linesBy answer-of qs
+
 abbrev pub answerLines : Sheet → List Question → List ℕ
-answerLines s [] = []
-answerLines s (q ∷ qs) = printed (resultLine (answer s q)) ++ answerLines s qs
+answerLines s qs = linesBy (answer s) qs
 
 abbrev pub outputOf : Result Sheet → List ℕ
 outputOf (ok s) = answerLines s (s .questions)
-outputOf (refused n) = printed (resultLine (refused n))
+outputOf (refused n) = textOf (refused n)
 
 -- what `lay` writes for the bytes that it reads
 unfoldable pub layOutput : List ℕ → List ℕ

@@ -2,16 +2,15 @@
 use Prim.Native.Nat.{ℕ, _+_}
 use mathlib.Core.Bool.{Bool, true, false, cond}
 use mathlib.Core.List.{List, [], _∷_}
-use lib.Dec.{ltb}
 use lib.ListN.{length, set}
 use lib.Seq.{sets}
 use Rattle.arith.specs.Pairs.{both}
-use Rattle.arith.specs.Refusals.{Result, ok, refused, _>>=_, _>>_, refuse_when_, refuse_unless_, inRoom, misread, reversed}
+use Rattle.arith.specs.Refusals.{Result, ok, refused, inRoom}
 use Rattle.shapes.specs.declared.Components.{Components}
 use Rattle.shapes.specs.Spans.{spansOf, partsBy, answerOver}
 use Rattle.shapes.specs.Rows.{answerAt}
 use Rattle.layout.specs.Arrays.{Answer}
-use Rattle.layout.specs.Lookup.{componentsContaining, inMemoryOnly}
+use Rattle.layout.specs.Lookup.{componentsContaining, lookupBy}
 use Rattle.components.specs.declared.Element.{Element}
 use Rattle.components.specs.declared.Element.the-variants.{At, Nothing}
 use Rattle.components.specs.declared.Lookup.{Lookup}
@@ -25,14 +24,9 @@ answersIn layouts n offsets members t = answerOver offsets members (answerAt lay
 abbrev pub foundIn : (layouts : List ℕ) (n : ℕ) (offsets members : List ℕ) → Components → (start end : ℕ) → List ℕ
 foundIn layouts n offsets members c start end = componentsContaining (answersIn layouts n offsets members) (partsBy (spansOf offsets members) c) start end
 
--- Q over the tables: 1 where there is no such type, 28, layout, 19
-unfoldable pub lookupIn : (layouts : List ℕ) (n : ℕ) (offsets members : List ℕ) → (type start end : ℕ) → Result (List ℕ)
-lookupIn layouts n offsets members t start end = do
-  refuse misread unless ltb t n
-  refuse reversed when ltb end start
-  l ← answersIn layouts n offsets members t
-  c ← inMemoryOnly l
-  ok (componentsContaining (answersIn layouts n offsets members) c start end)
+-- Q over the tables
+abbrev pub lookupIn : (layouts : List ℕ) (n : ℕ) (offsets members : List ℕ) → (type start end : ℕ) → Result (List ℕ)
+lookupIn layouts n offsets members t start end = lookupBy n (answersIn layouts n offsets members) t start end
 
 -- ---- as the code answers
 

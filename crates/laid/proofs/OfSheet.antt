@@ -7,21 +7,20 @@ use native.Mathlib.Omega.{arith}
 use lib.Dec.{ltb}
 use lib.ListN.{length, getD, getElem?, drop, length-append, List·getD-map}
 use borrow.Author.Tests.{lt-ltb, le-ltb, ltb-true, ltb-false}
-use Rattle.arith.specs.Refusals.{Result, ok, refused, _>>=_, _>>_, refuse_when_, refuse_unless_, misread, reversed}
+use Rattle.arith.specs.Refusals.{Result, refused, _>>_, refuse_unless_, misread}
 use Rattle.spirv.specs.Decl.{Decl}
 use Rattle.shapes.specs.Rows.{answerAt, flat}
 use Rattle.shapes.specs.Spans.{answerOver}
 use Rattle.shapes.specs.declared.Answer.{Answer}
 use Rattle.shapes.specs.declared.Answer.the-variants.{Refused}
 use Rattle.shapes.proofs.RowLaws.{answer-of-list}
-use Rattle.sheet.specs.Sheet.{declared, declIn}
+use Rattle.sheet.specs.Sheet.{declared}
 use Rattle.sheet.specs.Tables.{membersWords, offsetsWords}
 use Rattle.sheet.proofs.Tables.{members-length, offsets-length, spans, read-back}
 use Rattle.layout.specs.Arrays as arrays
 use Rattle.layout.specs.Layouts.{answerIn}
-use Rattle.layout.specs.Lookup.{lookup, inMemoryOnly, componentsContaining}
+use Rattle.layout.specs.Lookup.{lookupBy}
 use Rattle.records.proofs.Filled.{records-length}
-use Rattle.components.specs.Found.{answersIn, lookupIn}
 use Rattle.laid.specs.Statements.{SheetTables, answersOf, offsetsOf, RowsOfSheet, LookupsOfSheet}
 use Rattle.laid.proofs.AllTypes.{laid-out}
 
@@ -71,10 +70,5 @@ type-test (d ∷ ds) zero next = rw (lt-ltb 0 (length (d ∷ ds)) (omega arith))
 type-test (d ∷ ds) (suc t) next = rw (one-less t (length ds)) (type-test ds t next)
 
 pub lookups-of-sheet : LookupsOfSheet
-unfolding lookup lookupIn declIn
 lookups-of-sheet s types members given offsets rest tables t start end =
-    let same : _≡_ {A = ℕ → arrays.Answer} (answersIn (flat (answersOf s types members given offsets) ++ rest) (length (s .types)) (offsetsOf s types members given offsets) members) (answerIn s) =
-    fun-ext λ u. rows-of-sheet s types members given offsets rest tables u in
-    let body : (ℕ → arrays.Answer) → Result (List ℕ) = λ a. (refuse reversed when ltb end start) >> (a t >>= λ l. inMemoryOnly l >>= λ c. ok (componentsContaining a c start end)) in
-    type-test (s .types) t (body (answersIn (flat (answersOf s types members given offsets) ++ rest) (length (s .types)) (offsetsOf s types members given offsets) members))
-    ∙ ap (λ (a : ℕ → arrays.Answer). declared (getElem? (s .types) t) >> body a) same
+    ap (λ (answer-of : ℕ → arrays.Answer). lookupBy (length (s .types)) answer-of t start end) (fun-ext λ u. rows-of-sheet s types members given offsets rest tables u)

@@ -17,7 +17,7 @@ use Rattle.shapes.specs.Shapes.{Components, Scalar, Elements, Fields, MemTypeLa
 use Rattle.sheet.specs.Sheet.{Sheet}
 use Rattle.layout.specs.Arrays.{Answer}
 use Rattle.layout.specs.Layouts.{answerIn}
-use Rattle.layout.specs.Lookup.{sizeAtIndex, elementHolding, fieldHolds, memoryPasses, fieldsHolding, sizeOfPart, componentsContaining, inMemoryOnly, lookup}
+use Rattle.layout.specs.Lookup.{sizeAtIndex, elementHolding, fieldHolds, memoryPasses, fieldsHolding, sizeOfPart, componentsContaining, inMemoryOnly, lookupBy}
 use Rattle.layout.specs.Statements.{PartsOf, Has, RisingFrom, FieldHolding, ElementHolding, FoundIn, Lookup}
 use Rattle.layout.proofs.Parts.{parts}
 
@@ -210,7 +210,7 @@ module _ (s : Sheet) (t start end : ℕ) where
   found-in m (Fields os ts) e p = fields-found s start end os ts
 
 pub lookup-found : Lookup
-unfolding lookup inMemoryOnly
+unfolding lookupBy inMemoryOnly
 lookup-found s t start end found h =
     let l = went _ _ (passed _ _ (passed _ _ h)) in
     let c = went _ _ (l .rest) in

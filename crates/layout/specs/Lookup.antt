@@ -4,10 +4,10 @@ use mathlib.Core.Bool.{Bool, true, false, cond, _&&_, _||_}
 use mathlib.Core.List.{List, [], _∷_}
 use lib.Dec.{leb, ltb, eqb}
 use lib.ListN.{length}
-use Rattle.arith.specs.Refusals.{Result, ok, refused, _>>=_, _>>_, refuse_when_, inRoom, no-parts, reversed}
+use Rattle.arith.specs.Refusals.{Result, ok, refused, _>>=_, _>>_, refuse_when_, refuse_unless_, inRoom, misread, no-parts, reversed}
 use Rattle.arith.specs.Numbers.{max-u32}
 use Rattle.shapes.specs.Shapes.{Components, Scalar, Elements, Fields, MemTypeLayout, TypeLayout, Handle, HandleArray, Concrete, sizeOf, runtimeSized}
-use Rattle.sheet.specs.Sheet.{Sheet, declIn}
+use Rattle.sheet.specs.Sheet.{Sheet}
 use Rattle.layout.specs.Arrays.{Answer}
 use Rattle.layout.specs.Layouts.{answerIn}
 
@@ -66,14 +66,18 @@ inMemoryOnly (Handle h) = refused no-parts
 inMemoryOnly (HandleArray h n) = refused no-parts
 inMemoryOnly (Concrete m) = ok (m .components)
 
--- 28, layout, 19; a number that is no type is 1 before these
-unfoldable pub lookup : Sheet → (type start end : ℕ) → Result (List ℕ)
-lookup s type start end = do
-  declIn s type
+-- by how many types there are and what a type answers: 28, layout, 19; a number that is no type is 1 before these
+unfoldable pub lookupBy : (types : ℕ) → (answer-of : ℕ → Answer) → (type start end : ℕ) → Result (List ℕ)
+lookupBy types answer-of type start end = do
+  refuse misread unless ltb type types
   refuse reversed when ltb end start
-  l ← answerIn s type
+  l ← answer-of type
   c ← inMemoryOnly l
-  ok (componentsContaining (answerIn s) c start end)
+  ok (componentsContaining answer-of c start end)
+
+-- by what the sheet says
+abbrev pub lookup : Sheet → (type start end : ℕ) → Result (List ℕ)
+lookup s type start end = lookupBy (length (s .types)) (answerIn s) type start end
 
 -- and 24
 unfoldable pub lookupInRoom : (room : ℕ) → Sheet → (type start end : ℕ) → Result (List ℕ)

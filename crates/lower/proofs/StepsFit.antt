@@ -160,11 +160,15 @@ count s (i ∷ is) l o p steps f h =
     let r = count s is (a .to .layout) (onward s l o i p (a .to) (a .by)) (a .to .pending) (a .rest) (k .pending) (a .onward) in
     omega (arith, ap length (a .joined), length-append (a .to .steps) (a .rest))
 
+-- the bytes fit by whatever a type answers
+pub bytes-fit : (answer-of : ℕ → Answer) (l : TypeLayout) (is : List Index) (steps : List QPtrOp) → lowerFrom answer-of l Empty is ≡ ok steps → FitSteps steps
+bytes-fit answer-of l is steps h = fit-all answer-of is l Empty steps tt h
+
 pub steps-fit : StepsFit
 steps-fit s op ptr is steps h =
     let b = begun s op ptr is steps h in
     let c = count s is (b .layout) (start-in s op (b .pointee) (b .layout) (b .laid)) Empty steps tt (b .lowered) in
-    (fit-all (answerIn s) is (b .layout) Empty steps tt (b .lowered), omega (arith, c, one (b .layout)))
+    (bytes-fit (answerIn s) (b .layout) is steps (b .lowered), omega (arith, c, one (b .layout)))
   where
     one : (l : TypeLayout) → handle l ≤ 1
     one (Handle h) = omega arith

@@ -6,8 +6,10 @@ use mathlib.Core.Logic.{_⊎_, inl, inr, ⊎-elim}
 use mathlib.Core.Option.{Option, none, some}
 use native.Mathlib.Decide.{decLe}
 use native.Mathlib.Omega.{arith}
+use lib.Dec.{ltb}
 use lib.ListN.{length, getElem?}
-use Rattle.arith.specs.Refusals.{Result, ok, refused}
+use borrow.Author.Tests.{lt-ltb}
+use Rattle.arith.specs.Refusals.{Result, ok, refused, refuse_unless_, misread}
 use Rattle.arith.proofs.Results.{never, value-is, went, no-some, RefusedBy, fine-by, this-by, then-by, and-by, unless-by, when-by, wider-by}
 use Rattle.spirv.specs.declared.ChainOp.{ChainOp}
 use Rattle.spirv.specs.declared.ChainOp.the-variants.{AccessChain, InBoundsAccessChain, PtrAccessChain, InBoundsPtrAccessChain}
@@ -23,7 +25,7 @@ use Rattle.sheet.specs.Statements.{All, FitsType, FitsQuestion, GoodSheet}
 use Rattle.sheet.proofs.GoodSheet.{reads-good}
 use Rattle.layout.specs.Arrays.{runtimeParams}
 use Rattle.layout.specs.Layouts.{answerIn, runtimeArrayBy}
-use Rattle.layout.specs.Lookup.{inMemoryOnly, lookup}
+use Rattle.layout.specs.Lookup.{inMemoryOnly, lookupBy}
 use Rattle.layout.specs.Statements.{Has, PartsOf, IsLayoutRefusal}
 use Rattle.layout.proofs.InSheet.{decl-there}
 use Rattle.layout.proofs.Parts.{parts}
@@ -35,7 +37,7 @@ use Rattle.lower.specs.Other.{bufferOf, memberOf, runtimeStride, strideOfPart, 
 use Rattle.lower.proofs.Moves.{field-is}
 use Rattle.lower.proofs.Onward.{start-in}
 use Rattle.lower.proofs.Refusals.{IsWalkRefusal, laid-only, chain-only}
-use Rattle.answers.specs.Lines.{answer}
+use Rattle.answers.specs.Lines.{answerBy, answer}
 use Rattle.promise.specs.Table.{layoutRefusals, refusalsOf, TableNumbers}
 
 -- ---- numbers in a list
@@ -230,14 +232,18 @@ module _ (s : Sheet) (good : GoodSheet s) where
   memory-by (HandleArray h n) = this-by (inr (has-right layoutRefusals (19 ∷ []) 19 (inl refl)))
   memory-by (Concrete m) = fine-by
 
+  there-by : {P : ℕ → Type 0} (t : ℕ) → t < length (s .types) → RefusedBy P (refuse misread unless ltb t (length (s .types)))
+  unfolding refuse_unless_
+  there-by t lt = rw (lt-ltb t (length (s .types)) lt) fine-by
+
   -- ---- any question
 
   question-by : (q : Question) → FitsQuestion (length (s .types)) q → RefusedBy (Has (refusalsOf q)) (answer s q)
-  unfolding answer lookup variableBy
+  unfolding answerBy lookupBy variableBy
   question-by (Question.T t) f = then-by _ _ (layout-by t f layout-has) λ l h. fine-by
   question-by (Question.E a b) f = then-by _ _ (layout-by a (f .0) layout-has) λ l h. then-by _ _ (layout-by b (f .1) layout-has) λ m g. fine-by
   question-by (Question.Q t start end) f =
-      then-by _ _ (and-by _ _ (decl-by t (f .0)) (and-by _ _ (when-by _ _ (inl refl))
+      then-by _ _ (and-by _ _ (there-by t (f .0)) (and-by _ _ (when-by _ _ (inl refl))
       (then-by _ _ (layout-by t (f .0) (λ n h. inr (has-left layoutRefusals (19 ∷ []) n (layout-has n h)))) λ l h. then-by _ _ (memory-by l) λ c g. fine-by))) λ found h. fine-by
   question-by (Question.C op ptr is) f = then-by _ _ (chain-by op ptr is (f .0)) λ steps h. fine-by
   question-by (Question.L ptr member) f = then-by _ _ (length-by ptr member (f .0)) λ a h. fine-by

@@ -1,0 +1,3 @@
+pub mod Pointees
+pub mod Room
+pub mod OfSheet
