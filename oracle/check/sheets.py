@@ -222,7 +222,7 @@ def damaged(rnd, lines):
             lines[i], lines[j] = lines[j], lines[i]
         elif r == 8:
             lines[0] = b'G,' + b','.join(rnd.choice([b'0', b'1', b'2', b'3', b'16', b'2147483648', b'4294967295']) for _ in range(6))
-        elif r == 9 and rnd.random() < .3:
+        elif r == 9:
             above_a_limit(rnd, lines)
     sheet = b'\n'.join(lines) + b'\n'
     if rnd.random() < .3:
