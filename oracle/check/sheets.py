@@ -1,5 +1,5 @@
 """Random sheets. `sheet(rnd)`: the lines of one that is well formed, with every kind of question. `damaged(rnd, lines)`: the bytes of such a
-sheet after one to three changes, most of which break its form or a limit."""
+sheet after one to three changes, most of which break its form or a limit. `large(rnd)`: the lines of one whose answers are long."""
 import model
 
 E = [0, 1, 2, 3, 4, 5, 8, 12, 16, 20, 32, 64, 2**15, 2**28, 2**29, 2**30 - 1, 2**30, 2**31 - 8,
@@ -154,6 +154,15 @@ def sheet(rnd):
         lines.append('X,%d' % ptr())
         lines.append('E,%d,%d' % (rnd.randrange(n), rnd.randrange(n)))
     return lines
+
+
+def large(rnd):
+    """A sheet whose answers have some hundred thousand bytes: more than one buffer."""
+    n = rnd.randrange(200, 1000)
+    lines = ['G,1,1,1,1,1,1', 'S,0,0', 'S,1,%d' % n + ',0' * n]
+    at = rnd.choice([0, 1000, 10**6, 2**32 - 1 - n])
+    lines += ['D,%d,35,%d' % (i, at + i) for i in range(n)]
+    return lines + rnd.choices(['T,1', 'T,0', 'E,0,1', 'Q,0,0,0'], [8, 1, 1, 1], k=rnd.randrange(50, 200))
 
 
 # ---- damage
