@@ -1,3 +1,2 @@
-pub mod Pointees
 pub mod Room
 pub mod OfSheet

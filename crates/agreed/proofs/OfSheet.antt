@@ -28,7 +28,7 @@ use Rattle.replies.specs.Replies.{foundInRoom}
 use Rattle.pointing.specs.Pointing.{stepsInRoom}
 use Rattle.answering.specs.OfTables.{ofTables}
 use Rattle.agreed.specs.Statements.{AnswersOfSheet}
-use Rattle.agreed.proofs.Pointees.{pointees-of-sheet}
+use Rattle.joined.proofs.Pointers.{pointees-of-sheet}
 use Rattle.agreed.proofs.Room.{enough, found-few}
 
 module _ (s : Sheet) (types members given offsets rest : List ℕ) (tables : Tables (s .types) types members given (length offsets))

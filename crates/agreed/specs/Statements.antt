@@ -5,17 +5,10 @@ use mathlib.Core.List.{List, _++_}
 use lib.ListN.{length}
 use Rattle.spirv.specs.Questions.{Question}
 use Rattle.shapes.specs.Rows.{flat}
-use Rattle.sheet.specs.Sheet.{Sheet, indexCount, max-indices, max-members, pointeeIn}
+use Rattle.sheet.specs.Sheet.{Sheet, indexCount, max-indices, max-members}
 use Rattle.laid.specs.Statements.{Tables, answersOf, offsetsOf}
-use Rattle.pointers.specs.OverTables.{pointeeAt}
-use Rattle.answers.specs.Lines.{Source, answerBy, answer}
+use Rattle.answers.specs.Lines.{answerBy, answer}
 use Rattle.answering.specs.OfTables.{ofTables}
-
--- a pointer's row tells its pointee
-abbrev pub PointeesOfSheet : Type 0
-PointeesOfSheet =
-    (s : Sheet) (types members given : List ℕ) (room : ℕ) → Tables (s .types) types members given room → (ptr : ℕ)
-    → pointeeAt types (length (s .types)) ptr ≡ pointeeIn s ptr
 
 -- each question of at most 255 indices, where the offsets stand in a list of at most 1,024
 abbrev pub AnswersOfSheet : Type 0

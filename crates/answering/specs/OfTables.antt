@@ -17,7 +17,7 @@ ofTables cfg n types layouts offsets members = record {
   layout = answersIn layouts n offsets members;
   components = foundInRoom layouts n offsets members;
   steps = stepsInRoom n types layouts offsets members cfg;
-  length = lengthOver n types layouts offsets members;
+  array = lengthOver n types layouts offsets members;
   memory = variableOver n types layouts offsets members;
 }
 

@@ -93,7 +93,7 @@ pub record Source : Type 0 where
   pub layout : ℕ → Answer
   pub components : (type start end : ℕ) → Result (List ℕ)
   pub steps : ChainOp → (ptr : ℕ) → List Index → Result (List QPtrOp)
-  pub length : (ptr member : ℕ) → Result ArrayLength
+  pub array : (ptr member : ℕ) → Result ArrayLength
   pub memory : (ptr : ℕ) → Result (Option MemLayout)
 
 unfoldable pub answerBy : Source → Question → Result AnswerLine
@@ -111,14 +111,14 @@ answerBy x (Question.C op ptr indices) = do
   steps ← x .steps op ptr indices
   ok (bytes "c" ∷ stepsFields steps)
 answerBy x (Question.L ptr member) = do
-  a ← x .length ptr member
+  a ← x .array ptr member
   ok (lengthLine a)
 answerBy x (Question.X ptr) = do
   m ← x .memory ptr
   ok (variableLine m)
 
 abbrev pub ofSheet : Sheet → Source
-ofSheet s = record { layout = answerIn s; components = lookup s; steps = lowerChain s; length = arrayLength s; memory = localVariable s }
+ofSheet s = record { layout = answerIn s; components = lookup s; steps = lowerChain s; array = arrayLength s; memory = localVariable s }
 
 -- by what the sheet says
 abbrev pub answer : Sheet → Question → Result AnswerLine

@@ -29,7 +29,7 @@ use Rattle.joined.specs.Statements.{rowsOf}
 use Rattle.joined.proofs.Made.{Read, was-read, setting-back, was-made}
 use Rattle.joined.proofs.Pointers.{chains-of-sheet}
 use Rattle.joined.proofs.Reading.{tables-of-reading}
-use Rattle.joined.proofs.Written.{Counted, counted, few-indices, read-again}
+use Rattle.lowering.proofs.Written.{Counted, counted, few-indices, read-again}
 
 -- what the definitions say of accepted steps
 kept-by : (s : Sheet) (op : ChainOp) (ptr : ℕ) (chain : List ℕ) (steps : List QPtrOp) → lowerChain s op ptr (indicesIn chain) ≡ Result.ok steps → Kept s op ptr (indicesIn chain) steps

@@ -4,4 +4,3 @@ pub mod Made
 pub mod Pointers
 pub mod Reading
 pub mod Values
-pub mod Written

@@ -29,7 +29,7 @@ fn read_all(sheet: &mut [u8]) -> isize {
 // A refusal line, "e,4294967295" and LF at the longest. Whether it was written.
 fn write_refusal(e: u32) -> bool {
     let mut line = [0u8; 13];
-    match printing::whole::put_refusal_line(&mut line, e) {
+    match fitting::put_refusal_line(&mut line, e) {
         Answer::Bytes(n) => io::write_all(STDOUT_FILENO, &line[..n]),
         Answer::Refused(_) => false,
     }
@@ -38,7 +38,8 @@ fn write_refusal(e: u32) -> bool {
 // The lines of all questions, a buffer of whole lines at a time. Whether they were written.
 // No line has more than 11,324 bytes. T: "t", ",ab", 5 numbers and up to 1,024 offsets, each behind a comma and of up to 10 digits, and LF, that is
 // 1 + 3 + 1,029 * 11 + 1. Q: fewer numbers. C: "c", up to 256 steps and LF, where a step is at the longest "D", two numbers and an unknown
-// index, each behind a comma: 1 + 256 * (2 + 11 + 11 + 12) + 1. So a buffer of as many bytes always takes a line.
+// index, each behind a comma: 1 + 256 * (2 + 11 + 11 + 12) + 1. So a buffer of as many bytes always takes a line; the theorem `longest-line` of
+// the crate `longest` has 16,384.
 fn write_answers(
     sheet: &[u8],
     cfg: LayoutConfig,

@@ -14,8 +14,7 @@ use Rattle.asking.specs.Questions.{Next}
 use Rattle.answers.specs.Lines.{Source, answerBy}
 use Rattle.answers.specs.Output.{textOf}
 use Rattle.answering.specs.OfTables.{questionIn}
-use Rattle.listing.specs.declared.Filled.{Filled}
-use Rattle.listing.specs.Listing.{linesFrom, Moved, Fills}
+use Rattle.listing.specs.Listing.{linesFrom, filledWith, Moved, Fills}
 use Rattle.listing.proofs.Laws.{its-line, line-first}
 
 -- a text that, with the lines from the place on, is all lines
@@ -55,7 +54,7 @@ module _ {x : Source} {sheet : List ℕ} {from : ℕ} {old : List ℕ} {at : ℕ
 
 module _ {x : Source} {sheet : List ℕ} {from : ℕ} {old out list : List ℕ} {next bytes : ℕ} (small : length old < 9223372036854775808)
     (k : Reached x sheet from old 0 out list next bytes) (fits : bytes ≤ length old) (moved : Moved sheet from next bytes) where
-  pub no-more : linesFrom x sheet next ≡ [] → Fills x sheet from (record { next = next; bytes = bytes; more = false }) old out
+  pub no-more : linesFrom x sheet next ≡ [] → Fills x sheet from (filledWith next bytes false) old out
   no-more e = record {
     text = k .text;
     tried = [];
@@ -69,7 +68,7 @@ module _ {x : Source} {sheet : List ℕ} {from : ℕ} {old out list : List ℕ} 
 
   module _ {a : Ask} {n : ℕ} {new out′ : List ℕ} {q : ℕ} (y : Next sheet next a n list new) (room : length new ≡ 510)
       (z : Printed (textOf (answerBy x (questionIn a new))) out bytes q out′) where
-    pub no-room : length out′ < q → Fills x sheet from (record { next = next; bytes = bytes; more = true }) old out′
+    pub no-room : length out′ < q → Fills x sheet from (filledWith next bytes true) old out′
     no-room h =
         let line = textOf (answerBy x (questionIn a new)) in
         let all = both-printed k small y room z in

@@ -24,6 +24,9 @@ linesFrom x sheet at = linesBy (answerBy x) (answerable (questionsFrom sheet at)
 
 -- ---- a buffer of whole lines
 
+abbrev pub filledWith : (next bytes : ℕ) (more : Bool) → Filled
+filledWith next bytes more = record { next = next; bytes = bytes; more = more }
+
 -- the line of the first question from a place on
 pub record FirstLine (x : Source) (sheet : List ℕ) (at : ℕ) (line : List ℕ) : Type 0 where
   pub question : Question

@@ -3,11 +3,12 @@
 use asking::NextQuestion;
 use shapes::LayoutConfig;
 use text::Answer;
+ghost use mathlib.Core.Path.{_≡_};
 ghost use Rattle.arith.specs.Refusals.{ok};
 ghost use Rattle.text.specs.Printed.{Printed};
 ghost use Rattle.text.specs.Whole.{Whole};
 ghost use Rattle.answering.specs.OfTables.{ofTables};
-ghost use Rattle.listing.specs.Listing.{linesFrom, Fills};
+ghost use Rattle.listing.specs.Listing.{linesFrom, filledWith, Fills};
 
 // The lines of the questions from a place of the sheet on, printed as the crate `text` prints.
 pub fn put_answers(
@@ -107,6 +108,12 @@ pub struct Filled {
     pub more: bool,
 }
 
+fn with(next: usize, bytes: usize, more: bool) -> Filled
+    ensures { λ r. ⌜ r ≡ filledWith next bytes more ⌝ }
+{
+    Filled { next, bytes, more }
+}
+
 // As many lines of the questions from a place of the sheet on as fit the buffer whole.
 pub fn fill(
     sheet: &[u8],
@@ -140,28 +147,16 @@ pub fn fill(
                     bytes,
                 );
                 if out.len() < end {
-                    return Filled {
-                        next,
-                        bytes,
-                        more: true,
-                    };
+                    return with(next, bytes, true);
                 }
                 bytes = end;
                 next = behind;
             }
             NextQuestion::End => {
-                return Filled {
-                    next,
-                    bytes,
-                    more: false,
-                };
+                return with(next, bytes, false);
             }
             NextQuestion::Short => {
-                return Filled {
-                    next,
-                    bytes,
-                    more: false,
-                };
+                return with(next, bytes, false);
             }
         }
     }

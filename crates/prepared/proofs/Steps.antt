@@ -2,13 +2,10 @@
 use Prim.Native.Nat.{ℕ}
 use native.Mathlib.Omega.{arith}
 use mathlib.Core.Path.{_≡_, refl, sym, ap, _∙_}
-use mathlib.Core.Bool.{Bool, true, false}
-use mathlib.Core.List.{List, _++_}
-use lib.Dec.{eqb}
+use mathlib.Core.List.{List}
 use lib.ListN.{length, drop, replicate}
 use Rattle.arith.specs.Pairs.{both}
 use Rattle.arith.specs.Refusals.{Result, ok, refused}
-use Rattle.spirv.specs.Rows.{flagWord}
 use Rattle.shapes.specs.declared.LayoutConfig.{LayoutConfig}
 use Rattle.shapes.specs.Settings.{settingOf}
 use Rattle.sheet.specs.Sheet.{Sheet, max-members, readSheet}
@@ -17,18 +14,9 @@ use Rattle.reading.specs.declared.SheetAnswer.{SheetAnswer}
 use Rattle.reading.specs.Reads.{told, wordsIn, into, ReadsInto}
 use Rattle.records.specs.declared.Filling.{Filling}
 use Rattle.records.specs.Records.{filling}
+use Rattle.joined.proofs.Made.{setting-back}
 use Rattle.prepared.specs.declared.Ready.{Ready}
 use Rattle.prepared.specs.Prepared.{readInto, readyOf, laidInto, Prepares}
-
--- ---- the setting that its words hold
-
-flag-back : (b : Bool) → eqb (flagWord b) 1 ≡ b
-flag-back true = refl
-flag-back false = refl
-
-setting-back : (g : LayoutConfig) (rest : List ℕ) → settingOf (settingWords g ++ rest) ≡ g
-unfolding settingOf
-setting-back g rest = rw (flag-back (g .«ignore_legacy_align»))
 
 -- ---- read
 

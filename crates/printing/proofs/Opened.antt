@@ -8,8 +8,7 @@ use Rattle.lower.proofs.Opened as of-lower
 use Rattle.answers.proofs.Opened as of-answers
 use Rattle.steps.proofs.Opened as of-steps
 use Rattle.printing.specs.Behind as behind
-use Rattle.printing.specs.Contents as contents
 
 unfoldable pub opened : Unit {0}
-unfolding of-arith.opened of-text.opened of-decimal.opened of-spirv.opened of-shapes.opened of-lower.opened of-answers.opened of-steps.opened behind.behind contents.sameContents
+unfolding of-arith.opened of-text.opened of-decimal.opened of-spirv.opened of-shapes.opened of-lower.opened of-answers.opened of-steps.opened behind.behind
 opened = tt

@@ -1,4 +1,3 @@
 pub mod Behind
 pub mod Texts
 pub mod Layouts
-pub mod Contents

@@ -1,8 +1,7 @@
 // Answer lines of the program `lay`, printed into a lent slice at a place, as the crate `text` prints: what lies past the slice's end is left out.
-pub mod equality;
+
 pub mod fields;
 pub mod layouts;
-pub mod whole;
 
 use shapes::MemLayout;
 ghost use mathlib.Core.Option.{none, some};

@@ -42,7 +42,7 @@ pub fn equal_line(
         Answer::Laid(a) => match rows::answer_at(layouts, n, second) {
             Answer::Refused(e) => printing::refusal_line(out, at, e),
             Answer::Laid(b) => {
-                let same = printing::equality::same_lines(a, b, offsets);
+                let same = comparing::same_lines(a, b, offsets);
                 printing::equal_line(out, at, same)
             }
         },

@@ -17,6 +17,6 @@ pub fn answer_sheet(sheet: &[u8], out: &mut [u8]) -> Answer
         Ready::Tables { cfg, n } => {
             listing::put_all(sheet, 0, cfg, n, &types, &layouts, &offsets, &members, out)
         }
-        Ready::Refused(e) => printing::whole::put_refusal_line(out, e),
+        Ready::Refused(e) => fitting::put_refusal_line(out, e),
     }
 }

@@ -38,12 +38,15 @@ slice-aggregate-put-answer c = search needs
 put-answer-requires : tie.Need-put-answer-requires Inv-loop μ-loop
 put-answer-requires c κs = search needs
 
+with-requires : tie.Need-with-requires Inv-loop μ-loop
+with-requires c κs = search needs
+
 same-length : tie.Need-same-length Inv-loop μ-loop
-same-length c = kept _ (c .before .before .before .put-answer .ensures) ∙ kept _ (c .before .before .before .before .before .before .before .before .before .before .before .before .loop .inv .0 .printed)
+same-length c = kept _ (c .before .before .before .before .put-answer .ensures) ∙ kept _ (c .before .before .before .before .before .before .before .before .before .before .before .before .before .loop .inv .0 .printed)
 
 returns : tie.Need-returns Inv-loop μ-loop
 returns c =
-    no-room (omega (arith, c .before .before .before .before .before .before .before .before .before .before .before .before .before .before .before .before .before .before .before .good)) (c .before .before .before .before .before .before .before .before .before .before .before .before .loop .inv .0) (c .before .before .before .before .before .before .before .before .before .before .before .before .loop .inv .1) (c .before .before .before .before .before .before .before .before .before .before .before .before .loop .inv .2) (asked (c .before .before .before .before .before .before .before .before .before .before .next-question .ensures) (c .before .before .before .before .before .before .before .ask .given .1)) (omega (arith, c .before .before .before .before .before .before .before .before .before .before .next-question .kept, c .before .before .before .before .before .before .before .before .before .before .before .before .loop .inv .0 .room)) (c .before .before .before .put-answer .ensures) (c .if1 .taken)
+    rw (c .with .ensures) (no-room (omega (arith, c .before .before .before .before .before .before .before .before .before .before .before .before .before .before .before .before .before .before .before .before .good)) (c .before .before .before .before .before .before .before .before .before .before .before .before .before .loop .inv .0) (c .before .before .before .before .before .before .before .before .before .before .before .before .before .loop .inv .1) (c .before .before .before .before .before .before .before .before .before .before .before .before .before .loop .inv .2) (asked (c .before .before .before .before .before .before .before .before .before .before .before .next-question .ensures) (c .before .before .before .before .before .before .before .before .ask .given .1)) (omega (arith, c .before .before .before .before .before .before .before .before .before .before .before .next-question .kept, c .before .before .before .before .before .before .before .before .before .before .before .before .before .loop .inv .0 .room)) (c .before .before .before .before .put-answer .ensures) (c .before .if1 .taken))
 
 loop-less : tie.Need-loop-less Inv-loop μ-loop
 loop-less c =
@@ -62,20 +65,26 @@ loop-again c =
 enum-told : tie.Need-enum-told Inv-loop μ-loop
 enum-told c = search needs
 
+with-requires-2 : tie.Need-with-requires-2 Inv-loop μ-loop
+with-requires-2 c κs = search needs
+
 same-length-2 : tie.Need-same-length-2 Inv-loop μ-loop
-same-length-2 c = kept _ (c .before .before .before .before .before .loop .inv .0 .printed)
+same-length-2 c = kept _ (c .before .before .before .before .before .before .loop .inv .0 .printed)
 
 returns-2 : tie.Need-returns-2 Inv-loop μ-loop
-returns-2 c = no-more (omega (arith, c .before .before .before .before .before .before .before .before .before .before .before .before .good)) (c .before .before .before .before .before .loop .inv .0) (c .before .before .before .before .before .loop .inv .1) (c .before .before .before .before .before .loop .inv .2) (no-lines (ended (c .before .before .before .next-question .ensures) (c .enum-told .given .1)) _)
+returns-2 c = rw (c .with2 .ensures) (no-more (omega (arith, c .before .before .before .before .before .before .before .before .before .before .before .before .before .good)) (c .before .before .before .before .before .before .loop .inv .0) (c .before .before .before .before .before .before .loop .inv .1) (c .before .before .before .before .before .before .loop .inv .2) (no-lines (ended (c .before .before .before .before .next-question .ensures) (c .before .enum-told .given .1)) _))
 
 enum-told-2 : tie.Need-enum-told-2 Inv-loop μ-loop
 enum-told-2 c = search needs
 
+with-requires-3 : tie.Need-with-requires-3 Inv-loop μ-loop
+with-requires-3 c κs = search needs
+
 same-length-3 : tie.Need-same-length-3 Inv-loop μ-loop
-same-length-3 c = kept _ (c .before .before .before .before .before .loop .inv .0 .printed)
+same-length-3 c = kept _ (c .before .before .before .before .before .before .loop .inv .0 .printed)
 
 returns-3 : tie.Need-returns-3 Inv-loop μ-loop
-returns-3 c = no-more (omega (arith, c .before .before .before .before .before .before .before .before .before .before .before .before .good)) (c .before .before .before .before .before .loop .inv .0) (c .before .before .before .before .before .loop .inv .1) (c .before .before .before .before .before .loop .inv .2) (none-answerable (was-short (c .before .before .before .next-question .ensures) (c .enum-told2 .given .1)) (c .before .before .before .before .before .loop .inv .0 .room) _)
+returns-3 c = rw (c .with3 .ensures) (no-more (omega (arith, c .before .before .before .before .before .before .before .before .before .before .before .before .before .good)) (c .before .before .before .before .before .before .loop .inv .0) (c .before .before .before .before .before .before .loop .inv .1) (c .before .before .before .before .before .before .loop .inv .2) (none-answerable (was-short (c .before .before .before .before .next-question .ensures) (c .before .enum-told2 .given .1)) (c .before .before .before .before .before .before .loop .inv .0 .room) _))
 
 pub fill-spec : {M : Type 1} → statement M
 fill-spec =
@@ -89,13 +98,16 @@ fill-spec =
     enum-known-ask
     slice-aggregate-put-answer
     put-answer-requires
+    with-requires
     same-length
     returns
     loop-less
     loop-again
     enum-told
+    with-requires-2
     same-length-2
     returns-2
     enum-told-2
+    with-requires-3
     same-length-3
     returns-3)

@@ -71,7 +71,7 @@ returns c =
     let list = now (c .before .before .before .before .before .before .before .before .before .before .before .before .before .before .before .before .before .before .before .before .before .before .before .before .before .before .before .before .before .before .before .args .list) in
     let chain : now (c .before .before .before .before .before .before .before .before .before .before .before .before .before .before .before .before .before .before .before .before .before .before .before .span .result) ≡ chainWords (c .before .before .before .before .before .before .before .before .before .before .before .before .before .before .before .before .before .before .before .before .before .before .before .before .before .before .before .before .before .before .before .args .count) list = c .before .before .before .before .before .before .before .before .before .before .before .before .before .before .before .before .before .before .before .before .before .before .before .span .ensures ∙ ap (λ (w : ℕ). take w list) (c .before .before .before .before .before .before .before .before .before .before .before .before .before .before .before .before .before .before .before .before .before .before .before .before .words-of .ensures) in
     let short : length (now (c .before .before .before .before .before .before .before .before .before .before .before .before .before .before .before .before .before .before .before .before .before .before .before .span .result)) ≤ 510 = rw chain (omega (arith, length-take (min (2 * (c .before .before .before .before .before .before .before .before .before .before .before .before .before .before .before .before .before .before .before .before .before .before .before .before .before .before .before .before .before .before .before .args .count)) 510) list)) in
-    rw (← chain, steps-are _ _ _ _ _ _ _ _ _ short (c .before .before .before .before .before .before .before .before .before .before .before .before .before .before .before .before .before .lower-access-chain .ensures) _ (c .before .before .before .before .before .before .before .before .before .before .k .given .1) (omega arith) (omega arith) (omega arith) (omega arith) (omega arith)) (c .before .before .chain-line .ensures)
+    rw (← chain, steps-are _ _ _ _ _ _ _ _ _ short (c .before .before .before .before .before .before .before .before .before .before .before .before .before .before .before .before .before .lower-access-chain .ensures) _ (c .before .before .before .before .before .before .before .before .before .before .k .given .1) (omega arith)) (c .before .before .chain-line .ensures)
 
 same-length-2 : tie.Need-same-length-2
 same-length-2 c = search needs

@@ -1,0 +1,4 @@
+pub mod Layouts
+pub mod Steps
+pub mod Lengths
+pub mod Lines
