@@ -1,0 +1,218 @@
+-- Laws of chains over a table. Assumes nothing.
+use Prim.Native.Nat.{ℕ, zero, suc, _+_, _*_, _/_, _%_, _≤_, _<_, min}
+use native.Mathlib.Omega.{arith}
+use native.Mathlib.Numerals.{add-one}
+use mathlib.Core.Path.{_≡_, refl, sym, ap, _∙_, subst}
+use mathlib.Core.Bool.{Bool, true, false, cond, not}
+use mathlib.Core.List.{List, [], _∷_, _++_}
+use lib.Dec.{eqb, leb, ltb}
+use lib.ListN.{length, take, drop, replicate, length-append, length-replicate}
+use lib.Seq.{sets, take-at}
+use borrow.Author.Tests.{eqb-true, le-leb, lt-leb, le-ltb, lt-ltb, ltb-true, ltb-false}
+use Rattle.arith.specs.Refusals.{Result, ok, refused, _>>=_, _>>_, refuse_when_, refuse_unless_, inRoom, misread, oversize, short-list}
+use Rattle.arith.proofs.Results.{went, passed, not-refused, value-is, first-true}
+use Rattle.spirv.specs.declared.ChainOp.{ChainOp}
+use Rattle.spirv.specs.declared.Index.{Index}
+use Rattle.shapes.specs.declared.LayoutConfig.{LayoutConfig}
+use Rattle.sheet.specs.Sheet.{max-indices}
+use Rattle.sheet.specs.Tables.{over}
+use Rattle.sheet.proofs.Tables.{front}
+use Rattle.text.specs.Printed.{Printed}
+use Rattle.words.specs.Little.{little, wordsOf}
+use Rattle.words.proofs.Words.{words-length}
+use Rattle.components.specs.Found.{answersIn}
+use Rattle.lower.specs.declared.QPtrOp.{QPtrOp}
+use Rattle.lower.specs.Chain.{chainBy}
+use Rattle.lower.specs.Statements.{FitSteps}
+use Rattle.lower.proofs.StepsFit.{bytes-fit}
+use Rattle.steps.specs.Lists.{stepsIn, stepAt}
+use Rattle.steps.specs.Stored.{StoredAt}
+use Rattle.moves.specs.Moves.{indicesIn}
+use Rattle.moves.specs.Written.{walkOf, stepsOf, Wrote}
+use Rattle.moves.specs.declared.Walk.{Walk}
+use Rattle.moves.specs.declared.Walk.the-variants.{Steps, Refused}
+use Rattle.chain.specs.Chains.{roomOf}
+use Rattle.pointers.specs.OverTables.{pointeeAt, chainOver}
+use Rattle.lowering.proofs.Written.{read-again}
+use Rattle.wire.specs.Wire.{formedBytes, indicesOf, stepBytes, stepsBytes}
+use Rattle.flat.specs.Table.{countIn, settingIn, typesIn, membersIn, placesIn, layoutsIn}
+use Rattle.tabled.specs.declared.OpReading.{OpReading}
+use Rattle.tabled.specs.declared.OpReading.the-variants.{Op, Unknown}
+use Rattle.tabled.specs.Chains.{opOf, opIn, places, chainAt, chainIn, roomIn, Lowered, heldBy}
+
+-- ---- counts
+
+indices-count : (l : List ℕ) → length (indicesIn l) ≡ length l / 2
+unfolding indicesIn
+indices-count [] = refl
+indices-count (w ∷ []) = refl
+indices-count (w ∷ k ∷ l) = let e = indices-count l in omega arith
+
+-- eight bytes each
+pub bytes-count : (s : List ℕ) → length (indicesIn (wordsOf s)) ≡ length s / 8
+bytes-count s = let i = indices-count (wordsOf s) in let w = words-length (length s / 4) s in omega arith
+
+pub even : (s : List ℕ) → formedBytes s ≡ true → length s % 8 ≡ 0
+unfolding formedBytes
+even s h = eqb-true (length s % 8) 0 (first-true (eqb (length s % 8) 0) _ h)
+
+-- the words, read from a list that holds them all
+pub words-read : (m : ℕ) (s : List ℕ) {l : List ℕ} → length s / 4 ≤ m → l ≡ sets (replicate m 0) 0 (wordsOf s) → take (length s / 4) (drop 0 l) ≡ wordsOf s
+words-read m s {l} h e =
+    let n = words-length (length s / 4) s in
+    let zeros : List ℕ = replicate m 0 in
+    let r = length-replicate {A = ℕ} m 0 in
+    ap (take (length s / 4)) (e ∙ front zeros (wordsOf s) (omega arith)) ∙ take-at (wordsOf s) (drop (length (wordsOf s)) zeros) (length s / 4) n
+
+step-size : (s : QPtrOp) → length (stepBytes s) ≡ 20
+unfolding little
+step-size s = refl
+
+pub steps-size : (ss : List QPtrOp) → length (stepsBytes ss) ≡ 20 * length ss
+steps-size [] = refl
+steps-size (s ∷ ss) = let e = steps-size ss in omega (arith, length-append (stepBytes s) (stepsBytes ss), step-size s)
+
+module _ (ks bs ls ms is : List ℕ) where
+  steps-count : (n : ℕ) → length (stepsIn ks bs ls ms is n) ≡ n
+  unfolding stepsIn
+  steps-count zero = refl
+  steps-count (suc n) = let e = steps-count n in omega (arith, length-append (stepsIn ks bs ls ms is n) (stepAt ks bs ls ms is n ∷ []))
+
+  -- ---- steps as bytes
+
+  module _ (old : List ℕ) where
+    pub put-refused : (w : Walk) (e : ℕ) → w ≡ Refused e → Lowered (inRoom (roomIn old) length (heldBy w ks bs ls ms is)) (Refused e) old old
+    unfolding inRoom _>>=_
+    put-refused w e h = record { says = rw h; holds = rw h }
+
+    pub put-short : (w : Walk) (n : ℕ) → w ≡ Steps n → roomIn old < n → Lowered (inRoom (roomIn old) length (heldBy w ks bs ls ms is)) (Refused 24) old old
+    unfolding inRoom _>>=_ _>>_ refuse_when_
+    put-short w n h short =
+        let t = lt-ltb (roomIn old) n short in
+        record { says = rw (h, steps-count n, t); holds = rw (h, steps-count n, t) }
+
+    pub put-whole : (w : Walk) (n : ℕ) → w ≡ Steps n → n ≤ roomIn old → {p : ℕ} {new : List ℕ} → Printed (stepsBytes (stepsIn ks bs ls ms is n)) old 0 p new
+        → Lowered (inRoom (roomIn old) length (heldBy w ks bs ls ms is)) (Steps n) old new
+    unfolding inRoom _>>=_ _>>_ refuse_when_
+    put-whole w n h fits x =
+        let t = le-ltb (roomIn old) n fits in
+        let z : 0 + n ≡ n = omega arith in
+        let c = steps-count n in
+        record {
+          says = rw (h, steps-count n, t, steps-count n, z);
+          holds = rw (h, steps-count n, t) (x .bytes ∙ front old (stepsBytes (stepsIn ks bs ls ms is n)) (omega (arith, steps-size (stepsIn ks bs ls ms is n))));
+        }
+
+-- ---- what a walk left in the lists is what it came to
+
+few-in : (room : ℕ) (x y : List QPtrOp) (b : Bool) → ltb room (length x) ≡ b → ((refuse short-list when b) >> ok x) ≡ ok y → length x ≤ room
+unfolding refuse_when_ _>>_
+few-in room x y false e h = ltb-false room (length x) e
+few-in room x y true e h = absurd (let z : _≡_ {A = ℕ} 0 1 = cc in omega arith)
+
+module _ (room : ℕ) (cfg : LayoutConfig) (n : ℕ) (types layouts offsets members : List ℕ) (op : ChainOp) (ptr : ℕ) (chain : List ℕ) where
+  -- accepted steps fit, and stay in the room
+  pub record Good (steps : List QPtrOp) : Type 0 where
+    pub fit : FitSteps steps
+    pub few : length steps ≤ room
+
+  good : (steps : List QPtrOp) → chainOver room cfg n types layouts offsets members op ptr chain ≡ ok steps → Good steps
+  unfolding chainOver inRoom chainBy
+  good steps h =
+      let r = went _ _ (passed _ _ (passed _ _ h)) in
+      let t = went _ _ (r .here) in
+      let l = went _ _ (t .rest) in
+      let same : r .value ≡ steps = value-is (passed _ _ (r .rest)) in
+      record {
+        fit = subst FitSteps same (bytes-fit (answersIn layouts n offsets members) (l .value) (indicesIn chain) (r .value) (l .rest));
+        few = subst (λ (x : List QPtrOp). length x ≤ room) same (few-in room (r .value) steps (ltb room (length (r .value))) refl (r .rest));
+      }
+
+  pub held-is : {w : Walk} {ks bs ls ms is ks′ bs′ ls′ ms′ is′ : List ℕ} → Wrote 0 (chainOver room cfg n types layouts offsets members op ptr chain) w ks bs ls ms is ks′ bs′ ls′ ms′ is′
+      → room ≤ roomOf ks bs ls ms is → heldBy w ks′ bs′ ls′ ms′ is′ ≡ chainOver room cfg n types layouts offsets members op ptr chain
+  held-is {w} {ks} {bs} {ls} {ms} {is} {ks′} {bs′} {ls′} {ms′} {is′} x wide = by (chainOver room cfg n types layouts offsets members op ptr chain) refl (x .says) (x .stored)
+    where
+      by : (o : Result (List QPtrOp)) → chainOver room cfg n types layouts offsets members op ptr chain ≡ o → w ≡ walkOf 0 o → StoredAt 0 (stepsOf o) ks bs ls ms is ks′ bs′ ls′ ms′ is′
+          → heldBy w ks′ bs′ ls′ ms′ is′ ≡ o
+      by (refused e) i h stored = ap (λ (v : Walk). heldBy v ks′ bs′ ls′ ms′ is′) h
+      by (ok steps) i h stored =
+          let g = good steps i in
+          let z : 0 + length steps ≡ length steps = omega arith in
+          ap (λ (v : Walk). heldBy v ks′ bs′ ls′ ms′ is′) h
+          ∙ ap (λ (k : ℕ). ok (stepsIn ks′ bs′ ls′ ms′ is′ k)) z
+          ∙ ap ok (read-again steps ks bs ls ms is ks′ bs′ ls′ ms′ is′ (g .fit) (omega (arith, g .few)) stored)
+
+-- of the words that bytes spell
+pub lowered-is : (room : ℕ) (cfg : LayoutConfig) (n : ℕ) (types layouts offsets members : List ℕ) (op : ChainOp) (ptr : ℕ) (bytes : List ℕ) {chain : List ℕ} {v r : Walk} {old new : List ℕ}
+    {ks bs ls ms is ks′ bs′ ls′ ms′ is′ : List ℕ} → chain ≡ wordsOf bytes → Wrote 0 (chainOver room cfg n types layouts offsets members op ptr chain) v ks bs ls ms is ks′ bs′ ls′ ms′ is′
+    → room ≤ roomOf ks bs ls ms is → Lowered (inRoom (roomIn old) length (heldBy v ks′ bs′ ls′ ms′ is′)) r old new
+    → Lowered (inRoom (roomIn old) length (chainOver room cfg n types layouts offsets members op ptr (wordsOf bytes))) r old new
+lowered-is room cfg n types layouts offsets members op ptr bytes {chain} {v} {r} {old} {new} e x wide y =
+    subst (λ (o : Result (List QPtrOp)). Lowered (inRoom (roomIn old) length o) r old new)
+    (held-is room cfg n types layouts offsets members op ptr chain x wide ∙ ap (chainOver room cfg n types layouts offsets members op ptr) e) y
+
+-- ---- over a table
+
+-- a room within a room
+room-joined : (a b : ℕ) (r : Result (List QPtrOp)) → inRoom a length (inRoom b length r) ≡ inRoom (min b a) length r
+unfolding inRoom _>>=_ _>>_ refuse_when_
+room-joined a b (refused n) = refl
+room-joined a b (ok x) = by (ltb b (length x)) (ltb a (length x)) refl refl
+  where
+    by : (s t : Bool) → ltb b (length x) ≡ s → ltb a (length x) ≡ t → inRoom a length (inRoom b length (ok x)) ≡ inRoom (min b a) length (ok x)
+    by true t e f = let g = ltb-true b (length x) e in rw (e, lt-ltb (min b a) (length x) (omega arith))
+    by false true e f = let g = ltb-true a (length x) f in rw (e, f, lt-ltb (min b a) (length x) (omega arith))
+    by false false e f = let g = ltb-false b (length x) e in let h = ltb-false a (length x) f in rw (e, f, le-ltb (min b a) (length x) (omega arith))
+
+module _ (room : ℕ) (table : List ℕ) (o : ChainOp) (ptr : ℕ) (s : List ℕ) where
+  abbrev is : List Index
+  is = indicesIn (wordsOf s)
+
+  pub no-type : countIn table ≤ ptr → chainAt room table o ptr is ≡ refused misread
+  unfolding chainAt _>>_ refuse_unless_
+  no-type h = rw (le-ltb ptr (countIn table) h)
+
+  pub too-long : ptr < countIn table → 255 < length s / 8 → chainAt room table o ptr is ≡ refused oversize
+  unfolding chainAt _>>_ refuse_unless_ refuse_when_
+  too-long h g = let c = bytes-count s in rw (lt-ltb ptr (countIn table) h, lt-ltb max-indices (length is) (omega arith))
+
+  pub at-table : formedBytes s ≡ true → ptr < countIn table → length s / 8 ≤ 255 → (p : ℕ) → places (length s / 8) ≡ p
+      → inRoom room length (chainOver p (settingIn table) (countIn table) (typesIn table) (layoutsIn table) (placesIn table) (membersIn table) o ptr (wordsOf s)) ≡ chainAt room table o ptr is
+  unfolding chainAt chainOver _>>_ refuse_unless_ refuse_when_
+  at-table f h few p e =
+      let c = bytes-count s in
+      let w = words-length (length s / 4) s in
+      let v = even s f in
+      let q : places (length is) ≡ p = ap places c ∙ e in
+      rw (lt-ltb ptr (countIn table) h, le-ltb 510 (length (wordsOf s)) (omega arith), le-ltb max-indices (length is) (omega arith), q)
+      (room-joined room p (chainBy (settingIn table) (pointeeAt (typesIn table) (countIn table)) (answersIn (layoutsIn table) (countIn table) (placesIn table) (membersIn table)) o ptr is))
+
+pub refused-by : {result : Result (List QPtrOp)} (e : ℕ) (old : List ℕ) → result ≡ refused e → Lowered result (Refused e) old old
+refused-by e old h = record { says = rw h; holds = rw h }
+
+pub formed-by : (table : List ℕ) (o : ChainOp) (ptr : ℕ) (s : List ℕ) {cfg : LayoutConfig} {n : ℕ} {ty la os me : List ℕ} {r : Walk} {old new : List ℕ} (p : ℕ)
+    → formedBytes s ≡ true → ptr < n → length s / 8 ≤ 255 → places (length s / 8) ≡ p
+    → n ≡ countIn table → cfg ≡ settingIn table → ty ≡ typesIn table → la ≡ layoutsIn table → os ≡ placesIn table → me ≡ membersIn table
+    → Lowered (inRoom (roomIn old) length (chainOver p cfg n ty la os me o ptr (wordsOf s))) r old new
+    → Lowered (chainAt (roomIn old) table o ptr (indicesIn (wordsOf s))) r old new
+formed-by table o ptr s {cfg} {n} {ty} {la} {os} {me} {r} {old} {new} p f h few e en ec et el eo em x =
+    subst (λ (q : Result (List QPtrOp)). Lowered q r old new)
+    ((rw (en, ec, et, el, eo, em)) ∙ at-table (roomIn old) table o ptr s f (rw en at h) few p e) x
+
+-- ---- by bytes
+
+module _ (room : ℕ) (table : List ℕ) (op ptr : ℕ) (s : List ℕ) where
+  pub no-op : {r : OpReading} → r ≡ opOf op → r ≡ Unknown → chainIn room table op ptr s ≡ refused misread
+  unfolding chainIn _>>=_
+  no-op e u = let h : opOf op ≡ Unknown = sym e ∙ u in rw h
+
+  pub not-formed : {r : OpReading} (o : ChainOp) → r ≡ opOf op → r ≡ Op o → formedBytes s ≡ false → chainIn room table op ptr s ≡ refused misread
+  unfolding chainIn indicesOf _>>=_ _>>_ refuse_unless_
+  not-formed o e u f = let h : opOf op ≡ Op o = sym e ∙ u in rw (h, f)
+
+  pub is-formed : {r : OpReading} (o : ChainOp) → r ≡ opOf op → r ≡ Op o → formedBytes s ≡ true → chainIn room table op ptr s ≡ chainAt room table o ptr (indicesIn (wordsOf s))
+  unfolding chainIn indicesOf _>>=_ _>>_ refuse_unless_
+  is-formed o e u f = let h : opOf op ≡ Op o = sym e ∙ u in rw (h, f)
+
+pub by-result : {a b : Result (List QPtrOp)} {r : Walk} {old new : List ℕ} → a ≡ b → Lowered b r old new → Lowered a r old new
+by-result {a} {b} {r} {old} {new} e x = subst (λ (o : Result (List QPtrOp)). Lowered o r old new) (sym e) x

@@ -1,0 +1,210 @@
+// Chains lowered over a table: indices come in as bytes, and steps go out as bytes.
+use moves::Walk;
+use shapes::LayoutConfig;
+use shapes::rows;
+use spirv::ChainOp;
+ghost use mathlib.Core.Path.{_≡_};
+ghost use mathlib.Core.Bool.{true};
+ghost use Prim.Native.Nat.{_/_, _≤_};
+ghost use lib.ListN.{length};
+ghost use Rattle.arith.specs.Refusals.{inRoom};
+ghost use Rattle.words.specs.Little.{wordsOf};
+ghost use Rattle.moves.specs.Moves.{indicesIn};
+ghost use Rattle.pointers.specs.OverTables.{chainOver};
+ghost use Rattle.wire.specs.Wire.{formedBytes};
+ghost use Rattle.tabled.specs.Chains.{opOf, chainAt, chainIn, roomIn, Lowered, heldBy};
+
+// The op that a number is, if it is one.
+pub enum OpReading {
+    Op(ChainOp),
+    Unknown,
+}
+
+fn op_of(op: u32) -> OpReading
+    ensures { λ r. ⌜ r ≡ opOf op ⌝ }
+{
+    if op == 65 {
+        return OpReading::Op(ChainOp::AccessChain);
+    }
+    if op == 66 {
+        return OpReading::Op(ChainOp::InBoundsAccessChain);
+    }
+    if op == 67 {
+        return OpReading::Op(ChainOp::PtrAccessChain);
+    }
+    if op == 70 {
+        return OpReading::Op(ChainOp::InBoundsPtrAccessChain);
+    }
+    OpReading::Unknown
+}
+
+// The steps that a walk left in five lists, as bytes; 24 where these don't fit.
+fn put(
+    w: Walk,
+    kinds: &[u32],
+    bytes: &[u32],
+    bounds: &[u32],
+    marks: &[u32],
+    indices: &[u32],
+    out: &mut [u8],
+) -> Walk
+    ensures { λ r. ⌜ Lowered (inRoom (roomIn (now (out .entry))) length (heldBy w (now (kinds .entry)) (now (bytes .entry)) (now (bounds .entry)) (now (marks .entry)) (now (indices .entry)))) r (now (out .entry)) (now (out .exit)) ⌝ }
+{
+    match w {
+        Walk::Refused(e) => Walk::Refused(e),
+        Walk::Steps(n) => {
+            if out.len() / 20 < n {
+                return Walk::Refused(24);
+            }
+            wire::put_steps(out, 0, kinds, bytes, bounds, marks, indices, n);
+            Walk::Steps(n)
+        }
+    }
+}
+
+// At most 16 indices: little is cleared for them.
+fn lower_few(
+    cfg: LayoutConfig,
+    n: u32,
+    types: &[u32],
+    layouts: &[u32],
+    offsets: &[u32],
+    members: &[u32],
+    op: ChainOp,
+    ptr: u32,
+    chain: &[u8],
+    out: &mut [u8],
+) -> Walk
+    requires { ⌜ length (now chain) ≤ 128 ⌝ }
+    ensures { λ r. ⌜ Lowered (inRoom (roomIn (now (out .entry))) length (chainOver 17 cfg n (now (types .entry)) (now (layouts .entry)) (now (offsets .entry)) (now (members .entry)) op ptr (wordsOf (now (chain .entry))))) r (now (out .entry)) (now (out .exit)) ⌝ }
+{
+    let mut list = [0u32; 32];
+    words::read_words(chain, &mut list);
+    let words = rows::span(&list, 0, (chain.len() / 4) as u32);
+    let mut kinds = [0u32; 17];
+    let mut bytes = [0u32; 17];
+    let mut bounds = [0u32; 17];
+    let mut marks = [0u32; 17];
+    let mut indices = [0u32; 17];
+    let w = lowering::lower_access_chain(
+        cfg,
+        n,
+        types,
+        layouts,
+        offsets,
+        members,
+        op,
+        ptr,
+        words,
+        &mut kinds,
+        &mut bytes,
+        &mut bounds,
+        &mut marks,
+        &mut indices,
+    );
+    put(w, &kinds, &bytes, &bounds, &marks, &indices, out)
+}
+
+// At most 255 indices.
+fn lower_many(
+    cfg: LayoutConfig,
+    n: u32,
+    types: &[u32],
+    layouts: &[u32],
+    offsets: &[u32],
+    members: &[u32],
+    op: ChainOp,
+    ptr: u32,
+    chain: &[u8],
+    out: &mut [u8],
+) -> Walk
+    requires { ⌜ length (now chain) ≤ 2040 ⌝ }
+    ensures { λ r. ⌜ Lowered (inRoom (roomIn (now (out .entry))) length (chainOver 256 cfg n (now (types .entry)) (now (layouts .entry)) (now (offsets .entry)) (now (members .entry)) op ptr (wordsOf (now (chain .entry))))) r (now (out .entry)) (now (out .exit)) ⌝ }
+{
+    let mut list = [0u32; 510];
+    words::read_words(chain, &mut list);
+    let words = rows::span(&list, 0, (chain.len() / 4) as u32);
+    let mut kinds = [0u32; 256];
+    let mut bytes = [0u32; 256];
+    let mut bounds = [0u32; 256];
+    let mut marks = [0u32; 256];
+    let mut indices = [0u32; 256];
+    let w = lowering::lower_access_chain(
+        cfg,
+        n,
+        types,
+        layouts,
+        offsets,
+        members,
+        op,
+        ptr,
+        words,
+        &mut kinds,
+        &mut bytes,
+        &mut bounds,
+        &mut marks,
+        &mut indices,
+    );
+    put(w, &kinds, &bytes, &bounds, &marks, &indices, out)
+}
+
+// A chain of an op, by bytes that are indices.
+fn lower_formed(table: &[u32], op: ChainOp, ptr: u32, chain: &[u8], out: &mut [u8]) -> Walk
+    requires { ⌜ formedBytes (now chain) ≡ true ⌝ }
+    ensures { λ r. ⌜ Lowered (chainAt (roomIn (now (out .entry))) (now (table .entry)) op ptr (indicesIn (wordsOf (now (chain .entry))))) r (now (out .entry)) (now (out .exit)) ⌝ }
+{
+    let n = spirv::word_at(table, 0);
+    if n <= ptr {
+        return Walk::Refused(1);
+    }
+    let count = chain.len() / 8;
+    if 255 < count {
+        return Walk::Refused(2);
+    }
+    let cfg = shapes::words::setting_of(rows::span(table, 1, 6));
+    let types = rows::span(table, 7, 1536);
+    let members = rows::span(table, 1543, 1024);
+    let offsets = rows::span(table, 3591, 1024);
+    let layouts = rows::span(table, 4615, 2560);
+    if count <= 16 {
+        return lower_few(
+            cfg,
+            n,
+            types,
+            layouts,
+            offsets,
+            members,
+            op,
+            ptr,
+            chain,
+            out,
+        );
+    }
+    lower_many(
+        cfg,
+        n,
+        types,
+        layouts,
+        offsets,
+        members,
+        op,
+        ptr,
+        chain,
+        out,
+    )
+}
+
+// The steps of a chain into `out`, 20 bytes each, and how many; or the refusal, and `out` as it was.
+pub fn lower_chain(table: &[u32], op: u32, ptr: u32, chain: &[u8], out: &mut [u8]) -> Walk
+    ensures { λ r. ⌜ Lowered (chainIn (roomIn (now (out .entry))) (now (table .entry)) op ptr (now (chain .entry))) r (now (out .entry)) (now (out .exit)) ⌝ }
+{
+    match op_of(op) {
+        OpReading::Unknown => Walk::Refused(1),
+        OpReading::Op(o) => {
+            if !wire::formed(chain) {
+                return Walk::Refused(1);
+            }
+            lower_formed(table, o, ptr, chain, out)
+        }
+    }
+}
