@@ -2,7 +2,7 @@
 use Prim.Native.Nat.{ℕ, zero, suc, _+_, _*_, _≤_, _<_}
 use native.Mathlib.Omega.{arith}
 use mathlib.Core.Path.{_≡_, refl, sym, ap, _∙_}
-use mathlib.Core.Bool.{Bool, true, false}
+use mathlib.Core.Bool.{Bool}
 use mathlib.Core.List.{List, [], _∷_, _++_}
 use lib.ListN.{length, drop, replicate, length-append, length-drop, length-replicate}
 use lib.Seq.{sets, length-sets}
@@ -30,10 +30,10 @@ use Rattle.records.specs.declared.Filling.{Filling}
 use Rattle.records.proofs.Filled.{records-length}
 use Rattle.reading.specs.declared.SheetAnswer.{SheetAnswer}
 use Rattle.reading.specs.Reads.{told, wordsIn, into, ReadsInto}
-use Rattle.laid.specs.Statements.{answersOf, offsetsOf}
+use Rattle.laid.specs.Statements.{answersOf}
 use Rattle.joined.proofs.Made.{setting-back}
 use Rattle.flat.specs.Table.{part, typesPart, membersPart, givenPart, placesPart, layoutsPart, tableWords}
-use Rattle.flat.specs.Reads.{readIn, ReadsTable, laidOut, storedParts}
+use Rattle.flat.specs.Reads.{ReadsTable, laidOut, storedParts}
 
 -- ---- lengths
 

@@ -1,16 +1,15 @@
 -- Laws of chains over a table. Assumes nothing.
 use Prim.Native.Nat.{ℕ, zero, suc, _+_, _*_, _/_, _%_, _≤_, _<_, min}
 use native.Mathlib.Omega.{arith}
-use native.Mathlib.Numerals.{add-one}
 use mathlib.Core.Path.{_≡_, refl, sym, ap, _∙_, subst}
-use mathlib.Core.Bool.{Bool, true, false, cond, not}
-use mathlib.Core.List.{List, [], _∷_, _++_}
-use lib.Dec.{eqb, leb, ltb}
+use mathlib.Core.Bool.{Bool, true, false}
+use mathlib.Core.List.{List, [], _∷_}
+use lib.Dec.{eqb, ltb}
 use lib.ListN.{length, take, drop, replicate, length-append, length-replicate}
 use lib.Seq.{sets, take-at}
-use borrow.Author.Tests.{eqb-true, le-leb, lt-leb, le-ltb, lt-ltb, ltb-true, ltb-false}
+use borrow.Author.Tests.{eqb-true, le-ltb, lt-ltb, ltb-true, ltb-false}
 use Rattle.arith.specs.Refusals.{Result, ok, refused, _>>=_, _>>_, refuse_when_, refuse_unless_, inRoom, misread, oversize, short-list}
-use Rattle.arith.proofs.Results.{went, passed, not-refused, value-is, first-true}
+use Rattle.arith.proofs.Results.{went, passed, value-is, first-true}
 use Rattle.spirv.specs.declared.ChainOp.{ChainOp}
 use Rattle.spirv.specs.declared.Index.{Index}
 use Rattle.shapes.specs.declared.LayoutConfig.{LayoutConfig}
@@ -38,7 +37,7 @@ use Rattle.wire.specs.Wire.{formedBytes, indicesOf, stepBytes, stepsBytes}
 use Rattle.flat.specs.Table.{countIn, settingIn, typesIn, membersIn, placesIn, layoutsIn}
 use Rattle.tabled.specs.declared.OpReading.{OpReading}
 use Rattle.tabled.specs.declared.OpReading.the-variants.{Op, Unknown}
-use Rattle.tabled.specs.Chains.{opOf, opIn, places, chainAt, chainIn, roomIn, Lowered, heldBy}
+use Rattle.tabled.specs.Chains.{opOf, places, chainAt, chainIn, roomIn, Lowered, heldBy}
 
 -- ---- counts
 

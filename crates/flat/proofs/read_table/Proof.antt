@@ -3,10 +3,6 @@ use Rattle.flat.proofs.Laws.{read-refused, read-short, read-whole}
 use borrow.Author.Needs.{needs}
 use Rattle.flat.proofs.read_table.Statement.{statement}
 use Rattle.flat.proofs.read_table.Tie as tie
-use Rattle.flat.proofs.read_table.Reads as reads
-use Rattle.flat.proofs.read_table.Lts as lts
-use Rattle.flat.proofs.store.Reads as store-reads
-use Rattle.reading.proofs.read_sheet.Reads as read-sheet-reads
 
 slice-aggregate-read-sheet : tie.Need-slice-aggregate-read-sheet
 slice-aggregate-read-sheet c = search needs

@@ -3,11 +3,6 @@ use Rattle.flat.proofs.Laws.{parts-stored}
 use borrow.Author.Needs.{needs}
 use Rattle.flat.proofs.store.Statement.{statement}
 use Rattle.flat.proofs.store.Tie as tie
-use Rattle.flat.proofs.store.Reads as reads
-use Rattle.flat.proofs.store.Lts as lts
-use Rattle.records.proofs.layouts.Reads as layouts-reads
-use Rattle.shapes.proofs.words.setting_of.Reads as setting-of-reads
-use Rattle.spirv.proofs.put_words.Reads as put-words-reads
 
 setting-of-requires : tie.Need-setting-of-requires
 setting-of-requires c κs = search needs

@@ -1,15 +1,10 @@
 -- `tabled::lower_chain` meets its contract: by the op and the form of the indices. Assumes nothing.
-use mathlib.Core.Path.{_∙_, sym, subst}
+use mathlib.Core.Path.{_∙_, sym}
 use borrow.Author.Tests.{not-true, not-false}
 use Rattle.tabled.proofs.Laws.{no-op, not-formed, is-formed, refused-by, by-result}
 use borrow.Author.Needs.{needs}
 use Rattle.tabled.proofs.lower_chain.Statement.{statement}
 use Rattle.tabled.proofs.lower_chain.Tie as tie
-use Rattle.tabled.proofs.lower_chain.Reads as reads
-use Rattle.tabled.proofs.lower_chain.Lts as lts
-use Rattle.tabled.proofs.lower_formed.Reads as lower-formed-reads
-use Rattle.tabled.proofs.op_of.Reads as op-of-reads
-use Rattle.wire.proofs.formed.Reads as formed-reads
 
 -- src/lib.rt:179:11
 op-of-requires : tie.Need-op-of-requires

@@ -10,13 +10,6 @@ use Rattle.tabled.proofs.Laws.{even, no-type, too-long, refused-by, for
 use borrow.Author.Needs.{needs}
 use Rattle.tabled.proofs.lower_formed.Statement.{statement}
 use Rattle.tabled.proofs.lower_formed.Tie as tie
-use Rattle.tabled.proofs.lower_formed.Reads as reads
-use Rattle.tabled.proofs.lower_formed.Lts as lts
-use Rattle.shapes.proofs.rows.span.Reads as span-reads
-use Rattle.shapes.proofs.words.setting_of.Reads as setting-of-reads
-use Rattle.spirv.proofs.word_at.Reads as word-at-reads
-use Rattle.tabled.proofs.lower_few.Reads as lower-few-reads
-use Rattle.tabled.proofs.lower_many.Reads as lower-many-reads
 
 -- src/lib.rt:156:9
 word-at-requires : tie.Need-word-at-requires

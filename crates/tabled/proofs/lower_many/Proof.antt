@@ -6,12 +6,6 @@ use Rattle.tabled.proofs.Laws.{words-read, lowered-is}
 use borrow.Author.Needs.{needs}
 use Rattle.tabled.proofs.lower_many.Statement.{statement}
 use Rattle.tabled.proofs.lower_many.Tie as tie
-use Rattle.tabled.proofs.lower_many.Reads as reads
-use Rattle.tabled.proofs.lower_many.Lts as lts
-use Rattle.lowering.proofs.lower_access_chain.Reads as lower-access-chain-reads
-use Rattle.shapes.proofs.rows.span.Reads as span-reads
-use Rattle.tabled.proofs.put.Reads as put-reads
-use Rattle.words.proofs.read_words.Reads as read-words-reads
 
 -- src/lib.rt:125:30
 slice-aggregate-read-words : tie.Need-slice-aggregate-read-words

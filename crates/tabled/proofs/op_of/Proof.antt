@@ -3,8 +3,6 @@ use borrow.Author.Tests.{eq-eqb, ne-eqb}
 use Rattle.tabled.specs.Chains.{opOf}
 use Rattle.tabled.proofs.op_of.Statement.{statement}
 use Rattle.tabled.proofs.op_of.Tie as tie
-use Rattle.tabled.proofs.op_of.Reads as reads
-use Rattle.tabled.proofs.op_of.Lts as lts
 
 -- src/lib.rt:27:9
 returns : tie.Need-returns

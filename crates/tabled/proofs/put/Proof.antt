@@ -3,9 +3,6 @@ use Rattle.tabled.proofs.Laws.{put-refused, put-short, put-whole}
 use borrow.Author.Needs.{needs}
 use Rattle.tabled.proofs.put.Statement.{statement}
 use Rattle.tabled.proofs.put.Tie as tie
-use Rattle.tabled.proofs.put.Reads as reads
-use Rattle.tabled.proofs.put.Lts as lts
-use Rattle.wire.proofs.put_steps.Reads as put-steps-reads
 
 -- src/lib.rt:54:23
 enum-known-w : tie.Need-enum-known-w

@@ -1,0 +1,176 @@
+-- From a sheet's bytes to the bytes of the steps. Assumes nothing.
+use Prim.Native.Nat.{ℕ, suc, _+_, _*_, _≤_, min}
+use native.Mathlib.Omega.{arith}
+use mathlib.Core.Path.{_≡_, refl, sym, ap, _∙_, fun-ext}
+use mathlib.Core.Bool.{Bool, true, false}
+use mathlib.Core.List.{List}
+use lib.Dec.{leb, ltb}
+use lib.ListN.{length, drop, replicate}
+use lib.Seq.{take-at}
+use borrow.Author.Tests.{le-ltb, lt-ltb, ltb-true, ltb-false, leb-true}
+use Rattle.arith.specs.Refusals.{Result, ok, refused, _>>=_, _>>_, refuse_when_, refuse_unless_, inRoom, misread, oversize}
+use Rattle.arith.proofs.Results.{went, passed, value-is}
+use Rattle.spirv.specs.declared.ChainOp.{ChainOp}
+use Rattle.spirv.specs.declared.Index.{Index}
+use Rattle.shapes.specs.declared.LayoutConfig.{LayoutConfig}
+use Rattle.sheet.specs.Sheet.{Sheet, max-indices, pointeeIn}
+use Rattle.sheet.specs.Tables.{over}
+use Rattle.layout.specs.Arrays.{Answer}
+use Rattle.layout.specs.Layouts.{answerIn}
+use Rattle.components.specs.Found.{answersIn}
+use Rattle.laid.proofs.OfSheet.{rows-of-sheet}
+use Rattle.lower.specs.declared.QPtrOp.{QPtrOp}
+use Rattle.lower.specs.Chain.{chainBy, lowerChain, chainInRoom}
+use Rattle.lower.proofs.Neighbours.{no-neighbours}
+use Rattle.lower.proofs.StepsFit.{steps-fit}
+use Rattle.moves.specs.declared.Walk.the-variants.{Steps}
+use Rattle.moves.specs.Written.{walkOf, stepsOf}
+use Rattle.pointers.specs.OverTables.{pointeeAt}
+use Rattle.promise.proofs.SameByte.{same-byte}
+use Rattle.promise.proofs.Inside.{inside}
+use Rattle.wire.specs.Wire.{indicesOf, stepsBytes}
+use Rattle.joined.specs.EndToEnd.{Kept}
+use Rattle.joined.proofs.Pointers.{pointees-of-sheet}
+use Rattle.flat.specs.Table.{countIn, settingIn, typesIn, membersIn, placesIn, layoutsIn, typesPart, membersPart, givenPart}
+use Rattle.flat.proofs.Parts.{Read, was-read}
+use Rattle.tabled.specs.declared.OpReading.{OpReading}
+use Rattle.tabled.specs.declared.OpReading.the-variants.{Op, Unknown}
+use Rattle.tabled.specs.Chains.{opOf, opIn, places, chainAt, chainIn, roomIn, Lowered}
+use Rattle.tabled.specs.EndToEnd.{Calls, KeptBytes, EndToEnd}
+use Rattle.tabled.proofs.Laws.{steps-size, by-result}
+
+-- ---- what a table that was read answers
+
+-- a room that holds all steps there are is none
+wider : (p room : ℕ) (r : Result (List QPtrOp)) → ((steps : List QPtrOp) → r ≡ ok steps → length steps ≤ p) → inRoom (min p room) length r ≡ inRoom room length r
+unfolding inRoom _>>=_ _>>_ refuse_when_
+wider p room (refused n) h = refl
+wider p room (ok x) h = by (ltb room (length x)) refl
+  where
+    by : (b : Bool) → ltb room (length x) ≡ b → inRoom (min p room) length (ok x) ≡ inRoom room length (ok x)
+    by true e = let g = ltb-true room (length x) e in rw (e, lt-ltb (min p room) (length x) (omega arith))
+    by false e = let g = ltb-false room (length x) e in let k = h x refl in rw (e, le-ltb (min p room) (length x) (omega arith))
+
+enough-places : (k : ℕ) → k ≤ max-indices → suc k ≤ places k
+enough-places k h = by (leb k 16) refl
+  where
+    by : (b : Bool) → leb k 16 ≡ b → suc k ≤ places k
+    by true e = let g = leb-true k 16 e in rw e (omega arith)
+    by false e = rw e (omega arith)
+
+no-pointee : (cfg : LayoutConfig) (types : List ℕ) (n : ℕ) (answer-of : ℕ → Answer) (o : ChainOp) (ptr : ℕ) (is : List Index) → ltb ptr n ≡ false
+    → chainBy cfg (pointeeAt types n) answer-of o ptr is ≡ refused misread
+unfolding chainBy pointeeAt _>>=_
+no-pointee cfg types n answer-of o ptr is e = rw e
+
+module _ {input table : List ℕ} {n : ℕ} (r : Read input table n) where
+  abbrev s : Sheet
+  s = r .sheet
+
+  abbrev zeros : List ℕ
+  zeros = replicate 1024 0
+
+  pointees : _≡_ {A = ℕ → Result ℕ} (pointeeAt (typesIn table) (countIn table)) (pointeeIn s)
+  pointees = rw (r .parts .types, r .parts .count) (fun-ext λ ptr. pointees-of-sheet s (typesPart s) (membersPart s) (givenPart s) 1024 (r .tables) ptr)
+
+  answers : _≡_ {A = ℕ → Answer} (answersIn (layoutsIn table) (countIn table) (placesIn table) (membersIn table)) (answerIn s)
+  answers =
+      rw (r .parts .layouts, r .sizes .rows, r .parts .count, r .parts .places, r .parts .members)
+      (fun-ext λ t. rows-of-sheet s (typesPart s) (membersPart s) (givenPart s) zeros (drop (10 * length (s .types)) (replicate 2560 0)) (r .tables) t)
+
+  same-chain : (room : ℕ) (o : ChainOp) (ptr : ℕ) (is : List Index) → length is ≤ max-indices → chainAt room table o ptr is ≡ chainInRoom room s o ptr is
+  unfolding chainAt chainInRoom inRoom _>>=_ _>>_ refuse_unless_ refuse_when_
+  same-chain room o ptr is few = by (ltb ptr (countIn table)) refl
+    where
+      same-steps : chainBy (settingIn table) (pointeeAt (typesIn table) (countIn table)) (answersIn (layoutsIn table) (countIn table) (placesIn table) (membersIn table)) o ptr is ≡ lowerChain s o ptr is
+      same-steps =
+          ap (λ (g : LayoutConfig). chainBy g (pointeeAt (typesIn table) (countIn table)) (answersIn (layoutsIn table) (countIn table) (placesIn table) (membersIn table)) o ptr is) (r .parts .setting)
+          ∙ ap (λ (p : ℕ → Result ℕ). chainBy (s .setting) p (answersIn (layoutsIn table) (countIn table) (placesIn table) (membersIn table)) o ptr is) pointees
+          ∙ ap (λ (a : ℕ → Answer). chainBy (s .setting) (pointeeIn s) a o ptr is) answers
+
+      by : (b : Bool) → ltb ptr (countIn table) ≡ b → chainAt room table o ptr is ≡ chainInRoom room s o ptr is
+      by true e =
+          rw (e, le-ltb max-indices (length is) few)
+          (ap (inRoom (min (places (length is)) room) length) same-steps
+          ∙ wider (places (length is)) room (lowerChain s o ptr is) λ steps h. omega (arith, steps-fit s o ptr is steps h .1, enough-places (length is) few))
+      by false e = rw e (sym (ap (inRoom room length) (sym same-steps ∙ no-pointee (settingIn table) (typesIn table) (countIn table) (answersIn (layoutsIn table) (countIn table) (placesIn table) (membersIn table)) o ptr is e)))
+
+-- ---- what is asked
+
+is-op : (r : OpReading) (o : ChainOp) → opIn r ≡ ok o → r ≡ Op o
+is-op (Op p) o h = ap Op (value-is h)
+is-op Unknown o h = absurd (let z : _≡_ {A = ℕ} 0 1 = cc in omega arith)
+
+not-longer : (k : ℕ) (x : Result (List QPtrOp)) (steps : List QPtrOp) → ((refuse oversize when ltb max-indices k) >> x) ≡ ok steps → k ≤ max-indices
+unfolding refuse_when_ _>>_
+not-longer k x steps h = by (ltb max-indices k) refl h
+  where
+    by : (b : Bool) → ltb max-indices k ≡ b → ((refuse oversize when b) >> x) ≡ ok steps → k ≤ max-indices
+    by false e g = ltb-false max-indices k e
+    by true e g = absurd (let z : _≡_ {A = ℕ} 0 1 = cc in omega arith)
+
+few-asked : (room : ℕ) (table : List ℕ) (o : ChainOp) (ptr : ℕ) (is : List Index) (steps : List QPtrOp) → chainAt room table o ptr is ≡ ok steps → length is ≤ max-indices
+unfolding chainAt
+few-asked room table o ptr is steps h = not-longer (length is) _ steps (passed _ _ h)
+
+lowered-in : (room : ℕ) (s : Sheet) (o : ChainOp) (ptr : ℕ) (is : List Index) (steps : List QPtrOp) → chainInRoom room s o ptr is ≡ ok steps → lowerChain s o ptr is ≡ ok steps
+unfolding chainInRoom inRoom
+lowered-in room s o ptr is steps h =
+    let w = went (lowerChain s o ptr is) _ h in
+    w .here ∙ ap ok (value-is (passed _ _ (w .rest)))
+
+kept-by : (s : Sheet) (o : ChainOp) (ptr : ℕ) (is : List Index) (steps : List QPtrOp) → lowerChain s o ptr is ≡ ok steps → Kept s o ptr is steps
+kept-by s o ptr is steps h = record {
+  accepted = h;
+  same-byte = same-byte s o ptr is steps h;
+  inside = inside s o ptr is steps h;
+  no-neighbours = no-neighbours s o ptr is steps h;
+}
+
+-- ---- both
+
+module _ (input : List ℕ) (op ptr : ℕ) (chain : List ℕ) (c : Calls input op ptr chain) where
+  r : Read input (c .table) (c .n)
+  r = was-read input (c .n) (c .table₀) (c .table) (c .read)
+
+  answered : (o : ChainOp) (is : List Index) → opOf op ≡ Op o → indicesOf chain ≡ ok is → length is ≤ max-indices
+      → Lowered (chainInRoom (roomIn (c .out₀)) (r .sheet) o ptr is) (c .answer) (c .out₀) (c .out)
+  unfolding chainIn _>>=_
+  answered o is eo ei few =
+      by-result (sym (same-chain r (roomIn (c .out₀)) o ptr is few) ∙ sym (asked eo ei)) (c .lowered)
+    where
+      asked : opOf op ≡ Op o → indicesOf chain ≡ ok is → chainIn (roomIn (c .out₀)) (c .table) op ptr chain ≡ chainAt (roomIn (c .out₀)) (c .table) o ptr is
+      asked f g = rw (f, g)
+
+  kept : (count : ℕ) → c .answer ≡ Steps count → KeptBytes (r .sheet) op ptr chain (c .out) count
+  unfolding chainIn
+  kept count e = by (chainIn (roomIn (c .out₀)) (c .table) op ptr chain) refl (sym e ∙ c .lowered .says) (c .lowered .holds)
+    where
+      by : (x : Result (List QPtrOp)) → chainIn (roomIn (c .out₀)) (c .table) op ptr chain ≡ x → Steps count ≡ walkOf 0 x → c .out ≡ over (stepsBytes (stepsOf x)) (c .out₀)
+          → KeptBytes (r .sheet) op ptr chain (c .out) count
+      by (refused m) i h k = absurd (let z : _≡_ {A = ℕ} 0 1 = cc in omega arith)
+      by (ok steps) i h k =
+          let w = went (opIn (opOf op)) _ i in
+          let v = went (indicesOf chain) _ (w .rest) in
+          let few = few-asked (roomIn (c .out₀)) (c .table) (w .value) ptr (v .value) steps (v .rest) in
+          let lowered = lowered-in (roomIn (c .out₀)) (r .sheet) (w .value) ptr (v .value) steps (sym (same-chain r (roomIn (c .out₀)) (w .value) ptr (v .value) few) ∙ v .rest) in
+          let counted : count ≡ 0 + length steps = cc in
+          record {
+            asked = w .value;
+            by-number = is-op (opOf op) (w .value) (w .here);
+            indices = v .value;
+            by-bytes = v .here;
+            steps = steps;
+            many = omega (arith, counted);
+            bytes = rw k (take-at (stepsBytes steps) (drop (length (stepsBytes steps)) (c .out₀)) (20 * count) (omega (arith, counted, steps-size steps)));
+            kept = kept-by (r .sheet) (w .value) ptr (v .value) steps lowered;
+          }
+
+pub end-to-end : EndToEnd
+end-to-end input op ptr chain c = record {
+  sheet = r input op ptr chain c .sheet;
+  is-sheet = r input op ptr chain c .is-sheet;
+  types = r input op ptr chain c .types;
+  answered = answered input op ptr chain c;
+  kept = kept input op ptr chain c;
+}
