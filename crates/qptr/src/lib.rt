@@ -1,7 +1,10 @@
 // The C functions: numbers and lent bytes for a host that links libqptr.a. A negative answer is minus the number of a refusal.
+use moves::Walk;
+use reading::SheetAnswer;
 use text::Answer;
 ghost use mathlib.Core.Path.{_≡_};
 ghost use Rattle.qptr.specs.Answered.{codeOf, Small, Answered};
+ghost use Rattle.qptr.specs.OverTable.{sheetCode, walkCode, SmallWalk, TableRead, ChainLowered};
 
 // What C gets: a number of bytes, or minus the number of a refusal.
 fn code(a: Answer) -> i64
@@ -20,4 +23,49 @@ pub extern "C" fn qptr_answer_sheet(sheet: &[u8], out: &mut [u8]) -> i64
     ensures { λ r. ⌜ Answered (now (sheet .entry)) (now (out .entry)) r (now (out .exit)) ⌝ }
 {
     code(whole::answer_sheet(sheet, out))
+}
+
+// ---- over a table
+
+// A number of types, or minus the number of a refusal.
+fn sheet_code(a: SheetAnswer) -> i64
+    ensures { λ r. ⌜ r ≡ sheetCode a ⌝ }
+{
+    match a {
+        SheetAnswer::Types(n) => n as i64,
+        SheetAnswer::Refused(e) => 0 - e as i64,
+    }
+}
+
+// A number of steps, or minus the number of a refusal.
+fn walk_code(w: Walk) -> i64
+    requires { ⌜ SmallWalk w ⌝ }
+    ensures { λ r. ⌜ r ≡ walkCode w ⌝ }
+{
+    match w {
+        Walk::Steps(n) => n as i64,
+        Walk::Refused(e) => 0 - e as i64,
+    }
+}
+
+// Reads a sheet into a table of at least 7,175 words, and how many types it has; -1, -2, -3, or -24 where the table is shorter, and it is as it was.
+#[no_mangle]
+pub extern "C" fn qptr_read_sheet(sheet: &[u8], table: &mut [u32]) -> i64
+    ensures { λ r. ⌜ TableRead (now (sheet .entry)) r (now (table .entry)) (now (table .exit)) ⌝ }
+{
+    sheet_code(flat::read_table(sheet, table))
+}
+
+// The steps of a chain over a table, 20 bytes each, and how many; or minus the refusal, and the bytes as they were.
+#[no_mangle]
+pub extern "C" fn qptr_lower_chain(
+    table: &[u32],
+    op: u32,
+    ptr: u32,
+    indices: &[u8],
+    steps: &mut [u8],
+) -> i64
+    ensures { λ r. ⌜ ChainLowered (now (table .entry)) op ptr (now (indices .entry)) r (now (steps .entry)) (now (steps .exit)) ⌝ }
+{
+    walk_code(tabled::lower_chain(table, op, ptr, indices, steps))
 }

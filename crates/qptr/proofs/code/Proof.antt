@@ -1,11 +1,10 @@
 -- `qptr::code` meets its contract. Assumes nothing.
 use Prim.Native.Nat.{_<_}
 use native.Mathlib.Omega.{arith}
-use mathlib.Core.Path.{_≡_, _∙_}
+use mathlib.Core.Path.{_≡_}
 use lib.IntN.{pos, negℤ, _-ℤ_}
-use lib.Signed.{mag}
 use mir.Syntax.{w64}
-use mir.Val.{SFits, toZ}
+use mir.Val.{toZ}
 use mir.ValLaws.{toZ-ofZ, toZ-pos}
 use Rattle.qptr.proofs.Laws.{minus, minus-fits}
 use borrow.Author.Needs.{needs}
