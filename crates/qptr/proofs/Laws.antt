@@ -3,13 +3,13 @@ use Prim.Native.Nat.{ℕ, zero, suc, _-_, _≤_, _<_, min}
 use native.Mathlib.Omega.{arith}
 use mathlib.Core.Path.{_≡_, refl, sym, ap, _∙_, subst}
 use mathlib.Core.Bool.{Bool, true, false, cond}
-use mathlib.Core.List.{List}
+use mathlib.Core.List.{List, [], _∷_}
 use lib.Dec.{ltb}
 use lib.IntN.{ℤ, pos, negsuc, negℤ, _-ℤ_}
 use lib.ListN.{length}
 use mir.Syntax.{w64}
 use mir.Val.{SFits}
-use borrow.Author.Tests.{lt-ltb, ltb-false}
+use borrow.Author.Tests.{lt-ltb, le-ltb, ltb-false}
 use Rattle.arith.specs.Refusals.{Result, ok, refused, _>>=_, _>>_, refuse_when_, inRoom, short-list}
 use Rattle.arith.proofs.Results.{went, passed, value-is}
 use Rattle.spirv.specs.declared.ChainOp.{ChainOp}
@@ -21,9 +21,19 @@ use Rattle.moves.specs.Written.{walkOf}
 use Rattle.flat.specs.Reads.{ReadsTable}
 use Rattle.tabled.specs.Chains.{places, chainAt, chainIn, roomIn, Lowered}
 use Rattle.text.specs.declared.Answer.{Answer}
-use Rattle.text.specs.Whole.{Whole, held, answered}
+use Rattle.text.specs.Whole.{Whole, over, held, written, answered}
+use Rattle.sheet.proofs.Tables.{front}
+use Rattle.arith.specs.Pairs.{both}
+use lib.Seq.{sets}
+use Rattle.components.specs.declared.Lookup.{Lookup}
+use Rattle.components.specs.Found.{lookupIn, lookupBoth, answeredIn}
+use Rattle.pointers.specs.declared.ArrayLength.{ArrayLength}
+use Rattle.pointers.specs.InCode.{asLength}
+use Rattle.pointers.specs.OverTables.{lengthOver}
+use Rattle.lower.specs.Other as other
+use Rattle.flat.specs.Table.{countIn, typesIn, membersIn, placesIn, layoutsIn}
 use Rattle.qptr.specs.Answered.{codeOf, Small, Answered}
-use Rattle.qptr.specs.OverTable.{sheetCode, walkCode, SmallWalk, TableRead, ChainLowered}
+use Rattle.qptr.specs.OverTable.{sheetCode, walkCode, SmallWalk, TableRead, ChainLowered, Got, asAnswer, foundFor, lengthFor}
 use Rattle.answers.specs.Output.{layOutput}
 
 -- 0 less a number
@@ -36,30 +46,36 @@ minus-fits zero h = record { sfits = omega arith }
 minus-fits (suc e) h = record { sfits = omega arith }
 
 -- a list's room bounds what is written
-small-held : (room : ℕ) (text : List ℕ) → room < 9223372036854775808 → Small (answered (held room (ok text)))
-unfolding inRoom _>>=_ _>>_ refuse_when_ answered
-small-held room text h = by (ltb room (length text)) refl
+in-room : {A : Type 0} (room : ℕ) (r : Result (List A)) (l : List A) → inRoom room length r ≡ ok l → length l ≤ room
+unfolding inRoom _>>=_ _>>_ refuse_when_
+in-room room (refused n) l h = absurd (let z : _≡_ {A = ℕ} 0 1 = cc in omega arith)
+in-room {A} room (ok x) l h = by (ltb room (length x)) refl h
   where
-    by : (t : Bool) → ltb room (length text) ≡ t → Small (answered (refuse short-list when t >> ok text))
-    by true f = omega arith
-    by false f = omega (arith, ltb-false room (length text) f)
+    by : (t : Bool) → ltb room (length x) ≡ t → ((refuse short-list when t) >> ok x) ≡ ok l → length l ≤ room
+    by true f g = absurd (let z : _≡_ {A = ℕ} 0 1 = cc in omega arith)
+    by false f g = subst (λ (y : List A). length y ≤ room) (value-is g) (ltb-false room (length x) f)
 
-pub small : {text old new : List ℕ} {r : Answer} → length old < 9223372036854775808 → Whole (ok text) old r new → Small r
-small {text} {old} h w = subst Small (sym (w .says)) (small-held (length old) text h)
+pub small : {result : Result (List ℕ)} {old new : List ℕ} {r : Answer} → length old < 9223372036854775808 → Whole result old r new → Small r
+unfolding answered
+small {result} {old} h w = subst Small (sym (w .says)) (by (held (length old) result) refl)
+  where
+    by : (o : Result (List ℕ)) → held (length old) result ≡ o → Small (answered o)
+    by (refused e) i = tt
+    by (ok l) i = let k = in-room (length old) result l i in omega arith
+
+-- two words are few
+pub small-two : (a b : ℕ) {old new : List ℕ} {r : Answer} → Whole (ok (a ∷ b ∷ [])) old r new → Small r
+unfolding inRoom _>>=_ _>>_ refuse_when_ answered
+small-two a b {old} w = subst Small (sym (w .says)) (by (ltb (length old) 2))
+  where
+    by : (t : Bool) → Small (answered ((refuse short-list when t) >> ok (a ∷ b ∷ [])))
+    by true = tt
+    by false = omega arith
 
 pub told : {sheet old new : List ℕ} {a : Answer} {x : ℤ} → Whole (ok (layOutput sheet)) old a new → x ≡ codeOf a → Answered sheet old x new
 told w e = record { says = e ∙ ap codeOf (w .says); holds = w .holds }
 
 -- ---- over a table
-
-in-room : (room : ℕ) (r : Result (List QPtrOp)) (steps : List QPtrOp) → inRoom room length r ≡ ok steps → length steps ≤ room
-unfolding inRoom _>>=_ _>>_ refuse_when_
-in-room room (refused n) steps h = absurd (let z : _≡_ {A = ℕ} 0 1 = cc in omega arith)
-in-room room (ok x) steps h = by (ltb room (length x)) refl h
-  where
-    by : (t : Bool) → ltb room (length x) ≡ t → ((refuse short-list when t) >> ok x) ≡ ok steps → length steps ≤ room
-    by true f g = absurd (let z : _≡_ {A = ℕ} 0 1 = cc in omega arith)
-    by false f g = subst (λ (y : List QPtrOp). length y ≤ room) (value-is g) (ltb-false room (length x) f)
 
 steps-in : (room : ℕ) (table : List ℕ) (o : ChainOp) (ptr : ℕ) (is : List Index) (steps : List QPtrOp) → chainAt room table o ptr is ≡ ok steps → length steps ≤ room
 unfolding chainAt
@@ -84,3 +100,70 @@ table-read r e = record { says = e ∙ ap sheetCode (r .answer); words = r .word
 pub chain-lowered : (table : List ℕ) (op ptr : ℕ) (indices old : List ℕ) {new : List ℕ} {w : Walk} {x : ℤ} → Lowered (chainIn (roomIn old) table op ptr indices) w old new → x ≡ walkCode w
     → ChainLowered table op ptr indices x old new
 chain-lowered table op ptr indices old l e = record { says = e ∙ ap walkCode (l .says); holds = l .holds }
+
+-- ---- words
+
+pub got : {result : Result (List ℕ)} {old new : List ℕ} {a : Answer} {x : ℤ} → Whole result old a new → x ≡ codeOf a → Got result x old new
+got w e = record { says = e ∙ ap codeOf (w .says); holds = w .holds }
+
+pub give-short : (words old : List ℕ) → length old < length words → Whole (ok words) old (Answer.Refused 24) old
+unfolding inRoom _>>=_ _>>_ refuse_when_ answered written
+give-short words old h = record { says = rw (lt-ltb (length old) (length words) h); holds = rw (lt-ltb (length old) (length words) h) }
+
+pub give-whole : (words old : List ℕ) {new : List ℕ} → length words ≤ length old → new ≡ sets old 0 words → Whole (ok words) old (Answer.Bytes (length words)) new
+unfolding inRoom _>>=_ _>>_ refuse_when_ answered written
+give-whole words old h e = record { says = rw (le-ltb (length old) (length words) h); holds = rw (le-ltb (length old) (length words) h) (e ∙ front old words h) }
+
+-- what a lookup answers and writes
+looked : (result : Result (List ℕ)) (old : List ℕ) {l : Lookup} {new : List ℕ} {a : Answer} → both l new ≡ answeredIn old result → a ≡ asAnswer l → Whole result old a new
+unfolding lookupBoth answered written
+looked result old {l} {new} {a} h e = by (held (length old) result) refl h
+  where
+    by : (o : Result (List ℕ)) → held (length old) result ≡ o → both l new ≡ lookupBoth old o → Whole result old a new
+    by (refused m) i g = record {
+      says = rw i (e ∙ ap (λ (p : Lookup × List ℕ). asAnswer (p .0)) g);
+      holds = rw i (ap (λ (p : Lookup × List ℕ). p .1) g);
+    }
+    by (ok found) i g = record {
+      says = rw i (e ∙ ap (λ (p : Lookup × List ℕ). asAnswer (p .0)) g);
+      holds = rw i (ap (λ (p : Lookup × List ℕ). p .1) g ∙ front old found (in-room (length old) result found i));
+    }
+
+pub found-whole : (table : List ℕ) (ty start end : ℕ) (old : List ℕ) {n : ℕ} {la os me new : List ℕ} {l : Lookup} {a : Answer}
+    → n ≡ countIn table → la ≡ layoutsIn table → os ≡ placesIn table → me ≡ membersIn table
+    → both l new ≡ answeredIn old (lookupIn la n os me ty start end) → a ≡ asAnswer l → Whole (foundFor table ty start end) old a new
+found-whole table ty start end old {n} {la} {os} {me} en el eo em h e =
+    looked (foundFor table ty start end) old (h ∙ ap (answeredIn old) (rw (en, el, eo, em))) e
+
+-- what an array length answers
+length-is : (table : List ℕ) (ptr member : ℕ) {n : ℕ} {ty la os me : List ℕ} {l : ArrayLength}
+    → n ≡ countIn table → ty ≡ typesIn table → la ≡ layoutsIn table → os ≡ placesIn table → me ≡ membersIn table
+    → l ≡ asLength (lengthOver n ty la os me ptr member)
+    → l ≡ asLength (lengthOver (countIn table) (typesIn table) (layoutsIn table) (placesIn table) (membersIn table) ptr member)
+length-is table ptr member en et el eo em h = h ∙ (rw (en, et, el, eo, em))
+
+no-length : (r : Result other.ArrayLength) (e : ℕ) → ArrayLength.Refused e ≡ asLength r → r ≡ refused e
+unfolding asLength
+no-length (ok a) e h = absurd (let z : _≡_ {A = ℕ} 0 1 = cc in omega arith)
+no-length (refused m) e h = let z : m ≡ e = cc in ap refused z
+
+some-length : (r : Result other.ArrayLength) (offset stride : ℕ) → ArrayLength.Bytes offset stride ≡ asLength r → r ≡ ok (record { offset = offset; stride = stride })
+unfolding asLength
+some-length (ok a) o s h =
+    let p : o ≡ a .offset = cc in
+    let q : s ≡ a .stride = cc in
+    rw (p, q)
+some-length (refused m) o s h = absurd (let z : _≡_ {A = ℕ} 0 1 = cc in omega arith)
+
+module _ (table : List ℕ) (ptr member : ℕ) {n : ℕ} {ty la os me : List ℕ} {l : ArrayLength}
+    (en : n ≡ countIn table) (et : ty ≡ typesIn table) (el : la ≡ layoutsIn table) (eo : os ≡ placesIn table) (em : me ≡ membersIn table)
+    (h : l ≡ asLength (lengthOver n ty la os me ptr member)) where
+  pub length-refused : (e : ℕ) → l ≡ ArrayLength.Refused e → (old : List ℕ) {x : ℤ} → x ≡ codeOf (Answer.Refused e) → Got (lengthFor table ptr member) x old old
+  unfolding inRoom _>>=_ answered written
+  length-refused e g old k =
+      let o = no-length _ e (sym g ∙ length-is table ptr member en et el eo em h) in
+      record { says = rw o k; holds = rw o }
+
+  pub length-words : (offset stride : ℕ) → l ≡ ArrayLength.Bytes offset stride → ok (offset ∷ stride ∷ []) ≡ lengthFor table ptr member
+  unfolding _>>=_
+  length-words offset stride g = let o = some-length _ offset stride (sym g ∙ length-is table ptr member en et el eo em h) in rw o

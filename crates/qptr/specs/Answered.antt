@@ -17,7 +17,7 @@ codeOf (Refused e) = negℤ (pos e)
 -- a number of bytes that some list can have
 abbrev pub Small : Answer → Type 0
 Small (Bytes n) = n < 9223372036854775808
-Small (Refused e) = e < 4294967296
+Small (Refused e) = Unit {0}
 
 -- the text of a sheet, held in so many bytes
 abbrev pub heldOutput : (room : ℕ) (sheet : List ℕ) → Result (List ℕ)

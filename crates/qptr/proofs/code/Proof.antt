@@ -14,7 +14,7 @@ use Rattle.qptr.proofs.code.Tie as tie
 -- a refusal's number, and what the second arm makes of it
 module _ (c : tie.After-known-told2) where
   word : c .before .a2 .given .0 .0 < 4294967296
-  word = rw (c .before .a2 .given .1) at (c .before .before .before .pre)
+  word = omega (arith, c .known-told2 .given)
 
   below : pos 0 -ℤ toZ w64 (c .before .a2 .given .0 .0) ≡ negℤ (pos (c .before .a2 .given .0 .0))
   below = rw (toZ-pos w64 (c .before .a2 .given .0 .0) (omega (arith, word))) (minus (c .before .a2 .given .0 .0))
