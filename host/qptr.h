@@ -1,0 +1,69 @@
+/* The C functions of libqptr.a. A list is handed over as its address and its length. A negative answer is minus the number of a refusal, and then
+   every lent list is as it was. */
+#ifndef QPTR_H
+#define QPTR_H
+#include <stddef.h>
+#include <stdint.h>
+
+#define QPTR_TABLE_WORDS 7175 /* words of a sheet's table */
+#define QPTR_INDEX_BYTES 8    /* an index: its word, then 0 (known) or 1 (unknown); words are little-endian */
+#define QPTR_STEP_BYTES 20    /* a step: kind, bytes or stride, length or 0, 1 where its index is unknown, the index */
+#define QPTR_MOST_STEPS 256   /* steps of a chain of 255 indices, the most there can be */
+
+enum qptr_step_kind { QPTR_HANDLE_ARRAY_INDEX = 1, QPTR_BUFFER_DATA = 2, QPTR_OFFSET = 3, QPTR_DYN_OFFSET = 4 };
+
+enum qptr_refusal {
+    QPTR_MISREAD = 1,
+    QPTR_OVERSIZE = 2,
+    QPTR_BAD_SETTING = 3,
+    QPTR_UNSUPPORTED = 4,
+    QPTR_ODD_WIDTH = 5,
+    QPTR_ZERO_LENGTH = 6,
+    QPTR_SPECIALIZATION = 7,
+    QPTR_ZERO_STRIDE = 8,
+    QPTR_NESTED_HANDLES = 9,
+    QPTR_UNSIZED_ELEMENT = 10,
+    QPTR_HANDLE_MEMBER = 11,
+    QPTR_ROW_MAJOR = 12,
+    QPTR_OFFSET_REPEATED = 13,
+    QPTR_OFFSETS_MISSING = 14,
+    QPTR_UNSIZED_MISPLACED = 15,
+    QPTR_OVERFLOW = 16,
+    QPTR_AMBIGUOUS = 17,
+    QPTR_NO_POINTER = 18,
+    QPTR_NO_PARTS = 19,
+    QPTR_UNKNOWN_FIELD = 20,
+    QPTR_FIELD_OUTSIDE = 21,
+    QPTR_FAR_FIELD = 22,
+    QPTR_STEP_OVERFLOW = 23,
+    QPTR_SHORT_LIST = 24,
+    QPTR_NO_BUFFER = 25,
+    QPTR_NO_RUNTIME_ARRAY = 26,
+    QPTR_NOT_LAST = 27,
+    QPTR_REVERSED = 28
+};
+
+#ifdef __cplusplus
+extern "C" {
+#endif
+
+/* The answer lines of a sheet, as `lay` writes them; how many bytes. */
+int64_t qptr_answer_sheet(const uint8_t *sheet, size_t sheet_len, uint8_t *out, size_t out_len);
+
+/* Reads a sheet into a table; how many types. */
+int64_t qptr_read_sheet(const uint8_t *sheet, size_t sheet_len, uint32_t *table, size_t table_len);
+
+/* Lowers a chain, op 65, 66, 67 or 70; how many steps. */
+int64_t qptr_lower_chain(const uint32_t *table, size_t table_len, uint32_t op, uint32_t ptr, const uint8_t *indices, size_t indices_len,
+                         uint8_t *steps, size_t steps_len);
+
+/* The components of a type that hold the bytes from start to end, rising; how many. */
+int64_t qptr_find_components(const uint32_t *table, size_t table_len, uint32_t type, uint32_t start, uint32_t end, uint32_t *out, size_t out_len);
+
+/* Where a runtime array that ends a block begins, and its stride: 2 words. */
+int64_t qptr_array_length(const uint32_t *table, size_t table_len, uint32_t ptr, uint32_t member, uint32_t *out, size_t out_len);
+
+#ifdef __cplusplus
+}
+#endif
+#endif
