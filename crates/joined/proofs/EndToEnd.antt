@@ -6,6 +6,7 @@ use mathlib.Core.List.{List}
 use lib.ListN.{length, drop}
 use Rattle.arith.specs.Refusals.{Result}
 use Rattle.spirv.specs.declared.ChainOp.{ChainOp}
+use Rattle.spirv.specs.declared.Index.{Index}
 use Rattle.shapes.specs.declared.LayoutConfig.{LayoutConfig}
 use Rattle.shapes.specs.Settings.{settingOf}
 use Rattle.sheet.specs.Sheet.{Sheet}
@@ -32,12 +33,12 @@ use Rattle.joined.proofs.Reading.{tables-of-reading}
 use Rattle.lowering.proofs.Written.{Counted, counted, few-indices, read-again}
 
 -- what the definitions say of accepted steps
-kept-by : (s : Sheet) (op : ChainOp) (ptr : ℕ) (chain : List ℕ) (steps : List QPtrOp) → lowerChain s op ptr (indicesIn chain) ≡ Result.ok steps → Kept s op ptr (indicesIn chain) steps
-kept-by s op ptr chain steps h = record {
+pub kept-by : (s : Sheet) (op : ChainOp) (ptr : ℕ) (is : List Index) (steps : List QPtrOp) → lowerChain s op ptr is ≡ Result.ok steps → Kept s op ptr is steps
+kept-by s op ptr is steps h = record {
   accepted = h;
-  same-byte = same-byte s op ptr (indicesIn chain) steps h;
-  inside = inside s op ptr (indicesIn chain) steps h;
-  no-neighbours = no-neighbours s op ptr (indicesIn chain) steps h;
+  same-byte = same-byte s op ptr is steps h;
+  inside = inside s op ptr is steps h;
+  no-neighbours = no-neighbours s op ptr is steps h;
 }
 
 module _ (input : List ℕ) (op : ChainOp) (ptr : ℕ) (chain : List ℕ) (c : Calls input op ptr chain) where
@@ -92,7 +93,7 @@ module _ (input : List ℕ) (op : ChainOp) (ptr : ℕ) (chain : List ℕ) (c : C
     count-is = ap length held ∙ sym (by-count .many)
 
     kept : Kept s op ptr (indicesIn chain) (stepsHeld c count)
-    kept = subst (Kept s op ptr (indicesIn chain)) (sym held) (kept-by s op ptr chain (by-count .steps) (by-count .lowered))
+    kept = subst (Kept s op ptr (indicesIn chain)) (sym held) (kept-by s op ptr (indicesIn chain) (by-count .steps) (by-count .lowered))
 
 pub end-to-end : EndToEnd
 end-to-end input op ptr chain c = record {

@@ -21,15 +21,13 @@ use Rattle.components.specs.Found.{answersIn}
 use Rattle.laid.proofs.OfSheet.{rows-of-sheet}
 use Rattle.lower.specs.declared.QPtrOp.{QPtrOp}
 use Rattle.lower.specs.Chain.{chainBy, lowerChain, chainInRoom}
-use Rattle.lower.proofs.Neighbours.{no-neighbours}
 use Rattle.lower.proofs.StepsFit.{steps-fit}
 use Rattle.moves.specs.declared.Walk.the-variants.{Steps}
 use Rattle.moves.specs.Written.{walkOf, stepsOf}
 use Rattle.pointers.specs.OverTables.{pointeeAt}
-use Rattle.promise.proofs.SameByte.{same-byte}
-use Rattle.promise.proofs.Inside.{inside}
 use Rattle.wire.specs.Wire.{indicesOf, stepsBytes}
 use Rattle.joined.specs.EndToEnd.{Kept}
+use Rattle.joined.proofs.EndToEnd.{kept-by}
 use Rattle.joined.proofs.Pointers.{pointees-of-sheet}
 use Rattle.flat.specs.Table.{countIn, settingIn, typesIn, membersIn, placesIn, layoutsIn, typesPart, membersPart, givenPart}
 use Rattle.flat.proofs.Parts.{Read, was-read}
@@ -118,14 +116,6 @@ unfolding chainInRoom inRoom
 lowered-in room s o ptr is steps h =
     let w = went (lowerChain s o ptr is) _ h in
     w .here ∙ ap ok (value-is (passed _ _ (w .rest)))
-
-kept-by : (s : Sheet) (o : ChainOp) (ptr : ℕ) (is : List Index) (steps : List QPtrOp) → lowerChain s o ptr is ≡ ok steps → Kept s o ptr is steps
-kept-by s o ptr is steps h = record {
-  accepted = h;
-  same-byte = same-byte s o ptr is steps h;
-  inside = inside s o ptr is steps h;
-  no-neighbours = no-neighbours s o ptr is steps h;
-}
 
 -- ---- both
 
