@@ -3,13 +3,13 @@ use Prim.Native.Nat.{ℕ, zero, suc, _-_, _≤_, _<_, min}
 use native.Mathlib.Omega.{arith}
 use mathlib.Core.Path.{_≡_, refl, sym, ap, _∙_, subst}
 use mathlib.Core.Bool.{Bool, true, false, cond}
-use mathlib.Core.List.{List, [], _∷_}
+use mathlib.Core.List.{List}
 use lib.Dec.{ltb}
 use lib.IntN.{ℤ, pos, negsuc, negℤ, _-ℤ_}
 use lib.ListN.{length}
 use mir.Syntax.{w64}
 use mir.Val.{SFits}
-use borrow.Author.Tests.{lt-ltb, le-ltb, ltb-false}
+use borrow.Author.Tests.{lt-ltb, ltb-false}
 use Rattle.arith.specs.Refusals.{Result, ok, refused, _>>=_, _>>_, refuse_when_, inRoom, short-list}
 use Rattle.arith.proofs.Results.{went, passed, value-is}
 use Rattle.spirv.specs.declared.ChainOp.{ChainOp}
@@ -21,19 +21,9 @@ use Rattle.moves.specs.Written.{walkOf}
 use Rattle.flat.specs.Reads.{ReadsTable}
 use Rattle.tabled.specs.Chains.{places, chainAt, chainIn, roomIn, Lowered}
 use Rattle.text.specs.declared.Answer.{Answer}
-use Rattle.text.specs.Whole.{Whole, over, held, written, answered}
-use Rattle.sheet.proofs.Tables.{front}
-use Rattle.arith.specs.Pairs.{both}
-use lib.Seq.{sets}
-use Rattle.components.specs.declared.Lookup.{Lookup}
-use Rattle.components.specs.Found.{lookupIn, lookupBoth, answeredIn}
-use Rattle.pointers.specs.declared.ArrayLength.{ArrayLength}
-use Rattle.pointers.specs.InCode.{asLength}
-use Rattle.pointers.specs.OverTables.{lengthOver}
-use Rattle.lower.specs.Other as other
-use Rattle.flat.specs.Table.{countIn, typesIn, membersIn, placesIn, layoutsIn}
+use Rattle.text.specs.Whole.{Whole, held, answered}
 use Rattle.qptr.specs.Answered.{codeOf, Small, Answered}
-use Rattle.qptr.specs.OverTable.{sheetCode, walkCode, SmallWalk, TableRead, ChainLowered, Got, asAnswer, foundFor, lengthFor}
+use Rattle.qptr.specs.OverTable.{sheetCode, walkCode, SmallWalk, TableRead, ChainLowered, Got}
 use Rattle.answers.specs.Output.{layOutput}
 
 -- 0 less a number
@@ -62,15 +52,6 @@ small {result} {old} h w = subst Small (sym (w .says)) (by (held (length old) re
     by : (o : Result (List ℕ)) → held (length old) result ≡ o → Small (answered o)
     by (refused e) i = tt
     by (ok l) i = let k = in-room (length old) result l i in omega arith
-
--- two words are few
-pub small-two : (a b : ℕ) {old new : List ℕ} {r : Answer} → Whole (ok (a ∷ b ∷ [])) old r new → Small r
-unfolding inRoom _>>=_ _>>_ refuse_when_ answered
-small-two a b {old} w = subst Small (sym (w .says)) (by (ltb (length old) 2))
-  where
-    by : (t : Bool) → Small (answered ((refuse short-list when t) >> ok (a ∷ b ∷ [])))
-    by true = tt
-    by false = omega arith
 
 pub told : {sheet old new : List ℕ} {a : Answer} {x : ℤ} → Whole (ok (layOutput sheet)) old a new → x ≡ codeOf a → Answered sheet old x new
 told w e = record { says = e ∙ ap codeOf (w .says); holds = w .holds }
@@ -105,65 +86,3 @@ chain-lowered table op ptr indices old l e = record { says = e ∙ ap walkCode (
 
 pub got : {result : Result (List ℕ)} {old new : List ℕ} {a : Answer} {x : ℤ} → Whole result old a new → x ≡ codeOf a → Got result x old new
 got w e = record { says = e ∙ ap codeOf (w .says); holds = w .holds }
-
-pub give-short : (words old : List ℕ) → length old < length words → Whole (ok words) old (Answer.Refused 24) old
-unfolding inRoom _>>=_ _>>_ refuse_when_ answered written
-give-short words old h = record { says = rw (lt-ltb (length old) (length words) h); holds = rw (lt-ltb (length old) (length words) h) }
-
-pub give-whole : (words old : List ℕ) {new : List ℕ} → length words ≤ length old → new ≡ sets old 0 words → Whole (ok words) old (Answer.Bytes (length words)) new
-unfolding inRoom _>>=_ _>>_ refuse_when_ answered written
-give-whole words old h e = record { says = rw (le-ltb (length old) (length words) h); holds = rw (le-ltb (length old) (length words) h) (e ∙ front old words h) }
-
--- what a lookup answers and writes
-looked : (result : Result (List ℕ)) (old : List ℕ) {l : Lookup} {new : List ℕ} {a : Answer} → both l new ≡ answeredIn old result → a ≡ asAnswer l → Whole result old a new
-unfolding lookupBoth answered written
-looked result old {l} {new} {a} h e = by (held (length old) result) refl h
-  where
-    by : (o : Result (List ℕ)) → held (length old) result ≡ o → both l new ≡ lookupBoth old o → Whole result old a new
-    by (refused m) i g = record {
-      says = rw i (e ∙ ap (λ (p : Lookup × List ℕ). asAnswer (p .0)) g);
-      holds = rw i (ap (λ (p : Lookup × List ℕ). p .1) g);
-    }
-    by (ok found) i g = record {
-      says = rw i (e ∙ ap (λ (p : Lookup × List ℕ). asAnswer (p .0)) g);
-      holds = rw i (ap (λ (p : Lookup × List ℕ). p .1) g ∙ front old found (in-room (length old) result found i));
-    }
-
-pub found-whole : (table : List ℕ) (ty start end : ℕ) (old : List ℕ) {n : ℕ} {la os me new : List ℕ} {l : Lookup} {a : Answer}
-    → n ≡ countIn table → la ≡ layoutsIn table → os ≡ placesIn table → me ≡ membersIn table
-    → both l new ≡ answeredIn old (lookupIn la n os me ty start end) → a ≡ asAnswer l → Whole (foundFor table ty start end) old a new
-found-whole table ty start end old {n} {la} {os} {me} en el eo em h e =
-    looked (foundFor table ty start end) old (h ∙ ap (answeredIn old) (rw (en, el, eo, em))) e
-
--- what an array length answers
-length-is : (table : List ℕ) (ptr member : ℕ) {n : ℕ} {ty la os me : List ℕ} {l : ArrayLength}
-    → n ≡ countIn table → ty ≡ typesIn table → la ≡ layoutsIn table → os ≡ placesIn table → me ≡ membersIn table
-    → l ≡ asLength (lengthOver n ty la os me ptr member)
-    → l ≡ asLength (lengthOver (countIn table) (typesIn table) (layoutsIn table) (placesIn table) (membersIn table) ptr member)
-length-is table ptr member en et el eo em h = h ∙ (rw (en, et, el, eo, em))
-
-no-length : (r : Result other.ArrayLength) (e : ℕ) → ArrayLength.Refused e ≡ asLength r → r ≡ refused e
-unfolding asLength
-no-length (ok a) e h = absurd (let z : _≡_ {A = ℕ} 0 1 = cc in omega arith)
-no-length (refused m) e h = let z : m ≡ e = cc in ap refused z
-
-some-length : (r : Result other.ArrayLength) (offset stride : ℕ) → ArrayLength.Bytes offset stride ≡ asLength r → r ≡ ok (record { offset = offset; stride = stride })
-unfolding asLength
-some-length (ok a) o s h =
-    let p : o ≡ a .offset = cc in
-    let q : s ≡ a .stride = cc in
-    rw (p, q)
-some-length (refused m) o s h = absurd (let z : _≡_ {A = ℕ} 0 1 = cc in omega arith)
-
-module _ (table : List ℕ) (ptr member : ℕ) {n : ℕ} {ty la os me : List ℕ} {l : ArrayLength}
-    (en : n ≡ countIn table) (et : ty ≡ typesIn table) (el : la ≡ layoutsIn table) (eo : os ≡ placesIn table) (em : me ≡ membersIn table)
-    (h : l ≡ asLength (lengthOver n ty la os me ptr member)) where
-  pub length-refused : (e : ℕ) → l ≡ ArrayLength.Refused e → (old : List ℕ) {x : ℤ} → x ≡ codeOf (Answer.Refused e) → Got (lengthFor table ptr member) x old old
-  unfolding inRoom _>>=_ answered written
-  length-refused e g old k =
-      let o = no-length _ e (sym g ∙ length-is table ptr member en et el eo em h) in
-      record { says = rw o k; holds = rw o }
-
-  pub length-words : (offset stride : ℕ) → l ≡ ArrayLength.Bytes offset stride → ok (offset ∷ stride ∷ []) ≡ lengthFor table ptr member
-  unfolding _>>=_
-  length-words offset stride g = let o = some-length _ offset stride (sym g ∙ length-is table ptr member en et el eo em h) in rw o

@@ -1,17 +1,11 @@
 -- What C gets of a table: one number, and the lent list afterwards.
 use Prim.Native.Nat.{ℕ, _<_}
 use mathlib.Core.Path.{_≡_}
-use mathlib.Core.List.{List, [], _∷_}
+use mathlib.Core.List.{List}
 use lib.IntN.{ℤ, pos, negℤ}
 use lib.ListN.{length}
-use Rattle.arith.specs.Refusals.{Result, ok, _>>=_}
-use Rattle.text.specs.declared.Answer.{Answer}
-use Rattle.text.specs.declared.Answer.the-variants as text
+use Rattle.arith.specs.Refusals.{Result}
 use Rattle.text.specs.Whole.{held, written, answered}
-use Rattle.components.specs.declared.Lookup.{Lookup}
-use Rattle.components.specs.declared.Lookup.the-variants as lookup
-use Rattle.components.specs.Found.{lookupIn}
-use Rattle.pointers.specs.OverTables.{lengthOver}
 use Rattle.sheet.specs.Tables.{over}
 use Rattle.reading.specs.declared.SheetAnswer.{SheetAnswer}
 use Rattle.reading.specs.declared.SheetAnswer.the-variants as answer
@@ -21,7 +15,7 @@ use Rattle.moves.specs.declared.Walk.{Walk}
 use Rattle.moves.specs.declared.Walk.the-variants as walk
 use Rattle.moves.specs.Written.{walkOf, stepsOf}
 use Rattle.wire.specs.Wire.{stepsBytes}
-use Rattle.flat.specs.Table.{tableWords, countIn, typesIn, membersIn, placesIn, layoutsIn}
+use Rattle.flat.specs.Table.{tableWords}
 use Rattle.flat.specs.Reads.{readIn}
 use Rattle.tabled.specs.Chains.{chainIn, roomIn}
 use Rattle.qptr.specs.Answered.{codeOf}
@@ -59,17 +53,3 @@ pub record ChainLowered (table : List ℕ) (op ptr : ℕ) (indices : List ℕ) (
 pub record Got (result : Result (List ℕ)) (r : ℤ) (old new : List ℕ) : Type 0 where
   pub says : r ≡ codeOf (answered (held (length old) result))
   pub holds : new ≡ over (written (held (length old) result)) old
-
-abbrev pub asAnswer : Lookup → Answer
-asAnswer (lookup.Found n) = text.Bytes n
-asAnswer (lookup.Refused e) = text.Refused e
-
--- Q over a table
-abbrev pub foundFor : (table : List ℕ) (type start end : ℕ) → Result (List ℕ)
-foundFor table type start end = lookupIn (layoutsIn table) (countIn table) (placesIn table) (membersIn table) type start end
-
--- L over a table: offset and stride
-abbrev pub lengthFor : (table : List ℕ) (ptr member : ℕ) → Result (List ℕ)
-lengthFor table ptr member = do
-  a ← lengthOver (countIn table) (typesIn table) (layoutsIn table) (placesIn table) (membersIn table) ptr member
-  ok (a .offset ∷ a .stride ∷ [])

@@ -1,15 +1,11 @@
 // The C functions: numbers and lent bytes for a host that links libqptr.a. A negative answer is minus the number of a refusal.
-use components::Lookup;
 use moves::Walk;
-use pointers::ArrayLength;
 use reading::SheetAnswer;
-use shapes::rows;
 use text::Answer;
 ghost use mathlib.Core.Path.{_≡_};
 ghost use Rattle.qptr.specs.Answered.{codeOf, Small, Answered};
-ghost use Rattle.arith.specs.Refusals.{ok};
-ghost use Rattle.text.specs.Whole.{Whole};
-ghost use Rattle.qptr.specs.OverTable.{sheetCode, walkCode, SmallWalk, TableRead, ChainLowered, foundFor, lengthFor, asAnswer, Got};
+ghost use Rattle.asked.specs.Asked.{layoutFor, foundFor, lengthFor, variableFor};
+ghost use Rattle.qptr.specs.OverTable.{sheetCode, walkCode, SmallWalk, TableRead, ChainLowered, Got};
 
 // What C gets: a number of bytes, or minus the number of a refusal.
 fn code(a: Answer) -> i64
@@ -75,28 +71,17 @@ pub extern "C" fn qptr_lower_chain(
     walk_code(tabled::lower_chain(table, op, ptr, indices, steps))
 }
 
-// How many were found as a number of words.
-fn as_answer(l: Lookup) -> Answer
-    ensures { λ r. ⌜ r ≡ asAnswer l ⌝ }
+// ---- the other questions over a table: words, all of them or none, and how many; or minus the refusal, and the list as it was
+
+// The layout of a type: form (1 memory, 2 buffer, 3 opaque, 4 and 5 arrays of these), length, size, alignment, legacy alignment, runtime stride, stride of an array, then field offsets.
+#[no_mangle]
+pub extern "C" fn qptr_type_layout(table: &[u32], ty: u32, out: &mut [u32]) -> i64
+    ensures { λ r. ⌜ Got (layoutFor (now (table .entry)) ty) r (now (out .entry)) (now (out .exit)) ⌝ }
 {
-    match l {
-        Lookup::Found(n) => Answer::Bytes(n),
-        Lookup::Refused(e) => Answer::Refused(e),
-    }
+    code(asked::type_layout(table, ty, out))
 }
 
-// Words into a lent list, all of them or none.
-fn give(words: &[u32], out: &mut [u32]) -> Answer
-    ensures { λ r. ⌜ Whole (ok (now (words .entry))) (now (out .entry)) r (now (out .exit)) ⌝ }
-{
-    if out.len() < words.len() {
-        return Answer::Refused(24);
-    }
-    spirv::put_words(out, 0, words);
-    Answer::Bytes(words.len())
-}
-
-// The components of a type that hold the bytes from start to end, and how many; or minus the refusal, and the list as it was.
+// The components of a type that hold the bytes from start to end.
 #[no_mangle]
 pub extern "C" fn qptr_find_components(
     table: &[u32],
@@ -107,38 +92,21 @@ pub extern "C" fn qptr_find_components(
 ) -> i64
     ensures { λ r. ⌜ Got (foundFor (now (table .entry)) ty start end) r (now (out .entry)) (now (out .exit)) ⌝ }
 {
-    let n = spirv::word_at(table, 0);
-    let members = rows::span(table, 1543, 1024);
-    let offsets = rows::span(table, 3591, 1024);
-    let layouts = rows::span(table, 4615, 2560);
-    let found = components::find_components_containing(
-        layouts,
-        n,
-        offsets,
-        members,
-        ty,
-        start,
-        end,
-        out,
-    );
-    code(as_answer(found))
+    code(asked::find_components(table, ty, start, end, out))
 }
 
-// The offset and the stride of a buffer's runtime array, two words; or minus the refusal, and the list as it was.
+// The offset and the stride of a buffer's runtime array.
 #[no_mangle]
 pub extern "C" fn qptr_array_length(table: &[u32], ptr: u32, member: u32, out: &mut [u32]) -> i64
     ensures { λ r. ⌜ Got (lengthFor (now (table .entry)) ptr member) r (now (out .entry)) (now (out .exit)) ⌝ }
 {
-    let n = spirv::word_at(table, 0);
-    let types = rows::span(table, 7, 1536);
-    let members = rows::span(table, 1543, 1024);
-    let offsets = rows::span(table, 3591, 1024);
-    let layouts = rows::span(table, 4615, 2560);
-    match pointers::array_length(n, types, layouts, offsets, members, ptr, member) {
-        ArrayLength::Refused(e) => code(Answer::Refused(e)),
-        ArrayLength::Bytes { offset, stride } => {
-            let words = [offset, stride];
-            code(give(&words, out))
-        }
-    }
+    code(asked::array_length(table, ptr, member, out))
+}
+
+// The size, alignment and legacy alignment of a local variable; no words where it is not of a fixed size.
+#[no_mangle]
+pub extern "C" fn qptr_local_variable(table: &[u32], ptr: u32, out: &mut [u32]) -> i64
+    ensures { λ r. ⌜ Got (variableFor (now (table .entry)) ptr) r (now (out .entry)) (now (out .exit)) ⌝ }
+{
+    code(asked::local_variable(table, ptr, out))
 }

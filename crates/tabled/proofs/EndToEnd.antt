@@ -1,11 +1,11 @@
 -- From a sheet's bytes to the bytes of the steps. Assumes nothing.
 use Prim.Native.Nat.{ℕ, suc, _+_, _*_, _≤_, min}
 use native.Mathlib.Omega.{arith}
-use mathlib.Core.Path.{_≡_, refl, sym, ap, _∙_, fun-ext}
+use mathlib.Core.Path.{_≡_, refl, sym, ap, _∙_}
 use mathlib.Core.Bool.{Bool, true, false}
 use mathlib.Core.List.{List}
 use lib.Dec.{leb, ltb}
-use lib.ListN.{length, drop, replicate}
+use lib.ListN.{length, drop}
 use lib.Seq.{take-at}
 use borrow.Author.Tests.{le-ltb, lt-ltb, ltb-true, ltb-false, leb-true}
 use Rattle.arith.specs.Refusals.{Result, ok, refused, _>>=_, _>>_, refuse_when_, refuse_unless_, inRoom, misread, oversize}
@@ -15,10 +15,10 @@ use Rattle.spirv.specs.declared.Index.{Index}
 use Rattle.shapes.specs.declared.LayoutConfig.{LayoutConfig}
 use Rattle.sheet.specs.Sheet.{Sheet, max-indices, pointeeIn}
 use Rattle.sheet.specs.Tables.{over}
+use Rattle.sheet.proofs.GoodSheet.{reads-good}
 use Rattle.layout.specs.Arrays.{Answer}
 use Rattle.layout.specs.Layouts.{answerIn}
 use Rattle.components.specs.Found.{answersIn}
-use Rattle.laid.proofs.OfSheet.{rows-of-sheet}
 use Rattle.lower.specs.declared.QPtrOp.{QPtrOp}
 use Rattle.lower.specs.Chain.{chainBy, lowerChain, chainInRoom}
 use Rattle.lower.proofs.StepsFit.{steps-fit}
@@ -26,16 +26,19 @@ use Rattle.moves.specs.declared.Walk.the-variants.{Steps}
 use Rattle.moves.specs.Written.{walkOf, stepsOf}
 use Rattle.pointers.specs.OverTables.{pointeeAt}
 use Rattle.wire.specs.Wire.{indicesOf, stepsBytes}
+use Rattle.wire.proofs.Back.{step-back, indices-fit}
+use Rattle.longest.proofs.Steps.{steps-numbers}
 use Rattle.joined.specs.EndToEnd.{Kept}
 use Rattle.joined.proofs.EndToEnd.{kept-by}
-use Rattle.joined.proofs.Pointers.{pointees-of-sheet}
-use Rattle.flat.specs.Table.{countIn, settingIn, typesIn, membersIn, placesIn, layoutsIn, typesPart, membersPart, givenPart}
+use Rattle.flat.specs.Table.{countIn, settingIn, typesIn, membersIn, placesIn, layoutsIn}
 use Rattle.flat.proofs.Parts.{Read, was-read}
+use Rattle.flat.proofs.Answers.{pointees, answers}
 use Rattle.tabled.specs.declared.OpReading.{OpReading}
 use Rattle.tabled.specs.declared.OpReading.the-variants.{Op, Unknown}
 use Rattle.tabled.specs.Chains.{opOf, opIn, places, chainAt, chainIn, roomIn, Lowered}
 use Rattle.tabled.specs.EndToEnd.{Calls, KeptBytes, EndToEnd}
 use Rattle.tabled.proofs.Laws.{steps-size, by-result}
+use Rattle.tabled.proofs.Fit.{all-fit}
 
 -- ---- what a table that was read answers
 
@@ -65,17 +68,6 @@ module _ {input table : List ℕ} {n : ℕ} (r : Read input table n) where
   abbrev s : Sheet
   s = r .sheet
 
-  abbrev zeros : List ℕ
-  zeros = replicate 1024 0
-
-  pointees : _≡_ {A = ℕ → Result ℕ} (pointeeAt (typesIn table) (countIn table)) (pointeeIn s)
-  pointees = rw (r .parts .types, r .parts .count) (fun-ext λ ptr. pointees-of-sheet s (typesPart s) (membersPart s) (givenPart s) 1024 (r .tables) ptr)
-
-  answers : _≡_ {A = ℕ → Answer} (answersIn (layoutsIn table) (countIn table) (placesIn table) (membersIn table)) (answerIn s)
-  answers =
-      rw (r .parts .layouts, r .sizes .rows, r .parts .count, r .parts .places, r .parts .members)
-      (fun-ext λ t. rows-of-sheet s (typesPart s) (membersPart s) (givenPart s) zeros (drop (10 * length (s .types)) (replicate 2560 0)) (r .tables) t)
-
   same-chain : (room : ℕ) (o : ChainOp) (ptr : ℕ) (is : List Index) → length is ≤ max-indices → chainAt room table o ptr is ≡ chainInRoom room s o ptr is
   unfolding chainAt chainInRoom inRoom _>>=_ _>>_ refuse_unless_ refuse_when_
   same-chain room o ptr is few = by (ltb ptr (countIn table)) refl
@@ -83,8 +75,8 @@ module _ {input table : List ℕ} {n : ℕ} (r : Read input table n) where
       same-steps : chainBy (settingIn table) (pointeeAt (typesIn table) (countIn table)) (answersIn (layoutsIn table) (countIn table) (placesIn table) (membersIn table)) o ptr is ≡ lowerChain s o ptr is
       same-steps =
           ap (λ (g : LayoutConfig). chainBy g (pointeeAt (typesIn table) (countIn table)) (answersIn (layoutsIn table) (countIn table) (placesIn table) (membersIn table)) o ptr is) (r .parts .setting)
-          ∙ ap (λ (p : ℕ → Result ℕ). chainBy (s .setting) p (answersIn (layoutsIn table) (countIn table) (placesIn table) (membersIn table)) o ptr is) pointees
-          ∙ ap (λ (a : ℕ → Answer). chainBy (s .setting) (pointeeIn s) a o ptr is) answers
+          ∙ ap (λ (p : ℕ → Result ℕ). chainBy (s .setting) p (answersIn (layoutsIn table) (countIn table) (placesIn table) (membersIn table)) o ptr is) (pointees r)
+          ∙ ap (λ (a : ℕ → Answer). chainBy (s .setting) (pointeeIn s) a o ptr is) (answers r)
 
       by : (b : Bool) → ltb ptr (countIn table) ≡ b → chainAt room table o ptr is ≡ chainInRoom room s o ptr is
       by true e =
@@ -153,6 +145,7 @@ module _ (input : List ℕ) (op ptr : ℕ) (chain : List ℕ) (c : Calls input o
             steps = steps;
             many = omega (arith, counted);
             bytes = rw k (take-at (stepsBytes steps) (drop (length (stepsBytes steps)) (c .out₀)) (20 * count) (omega (arith, counted, steps-size steps)));
+            each = λ all j step g. rw k (step-back steps (drop (length (stepsBytes steps)) (c .out₀)) (all-fit steps (steps-numbers (r .sheet) (reads-good input (r .sheet) (r .is-sheet)) (w .value) ptr (v .value) (indices-fit chain (v .value) all (v .here)) steps lowered) (steps-fit (r .sheet) (w .value) ptr (v .value) steps lowered .0)) j step g);
             kept = kept-by (r .sheet) (w .value) ptr (v .value) steps lowered;
           }
 

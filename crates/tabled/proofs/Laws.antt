@@ -34,6 +34,7 @@ use Rattle.chain.specs.Chains.{roomOf}
 use Rattle.pointers.specs.OverTables.{pointeeAt, chainOver}
 use Rattle.lowering.proofs.Written.{read-again}
 use Rattle.wire.specs.Wire.{formedBytes, indicesOf, stepBytes, stepsBytes}
+use Rattle.wire.proofs.Back.{step-size}
 use Rattle.flat.specs.Table.{countIn, settingIn, typesIn, membersIn, placesIn, layoutsIn}
 use Rattle.tabled.specs.declared.OpReading.{OpReading}
 use Rattle.tabled.specs.declared.OpReading.the-variants.{Op, Unknown}
@@ -62,10 +63,6 @@ words-read m s {l} h e =
     let zeros : List ℕ = replicate m 0 in
     let r = length-replicate {A = ℕ} m 0 in
     ap (take (length s / 4)) (e ∙ front zeros (wordsOf s) (omega arith)) ∙ take-at (wordsOf s) (drop (length (wordsOf s)) zeros) (length s / 4) n
-
-step-size : (s : QPtrOp) → length (stepBytes s) ≡ 20
-unfolding little
-step-size s = refl
 
 pub steps-size : (ss : List QPtrOp) → length (stepsBytes ss) ≡ 20 * length ss
 steps-size [] = refl

@@ -2,17 +2,19 @@
 use Prim.Native.Nat.{ℕ, _*_, _≤_}
 use mathlib.Core.Path.{_≡_}
 use mathlib.Core.List.{List}
-use lib.ListN.{length, take}
+use mathlib.Core.Option.{some}
+use lib.ListN.{length, take, getElem?}
 use Rattle.arith.specs.Refusals.{ok}
 use Rattle.spirv.specs.declared.ChainOp.{ChainOp}
 use Rattle.spirv.specs.declared.Index.{Index}
 use Rattle.sheet.specs.Sheet.{Sheet, max-indices, readSheet}
+use Rattle.sheet.specs.Statements.{All}
 use Rattle.reading.specs.declared.SheetAnswer.the-variants.{Types}
 use Rattle.lower.specs.declared.QPtrOp.{QPtrOp}
 use Rattle.lower.specs.Chain.{chainInRoom}
 use Rattle.moves.specs.declared.Walk.{Walk}
 use Rattle.moves.specs.declared.Walk.the-variants.{Steps}
-use Rattle.wire.specs.Wire.{indicesOf, stepsBytes}
+use Rattle.wire.specs.Wire.{Byte, indicesOf, stepsBytes, stepNo}
 use Rattle.joined.specs.EndToEnd.{Kept}
 use Rattle.flat.specs.Reads.{ReadsTable}
 use Rattle.tabled.specs.declared.OpReading.the-variants.{Op}
@@ -40,6 +42,8 @@ pub record KeptBytes (s : Sheet) (op ptr : ℕ) (chain out : List ℕ) (count : 
   pub steps : List QPtrOp
   pub many : length steps ≡ count
   pub bytes : take (20 * count) out ≡ stepsBytes steps
+  -- and these are the steps that a host reads in the bytes
+  pub each : All Byte chain → (j : ℕ) (step : QPtrOp) → getElem? steps j ≡ some step → stepNo out j ≡ step
   pub kept : Kept s asked ptr indices steps
 
 -- the answer and the bytes are those of document 01's C for the sheet that the bytes are, in the room that the caller lends; and where the answer

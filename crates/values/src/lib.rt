@@ -7,7 +7,7 @@ ghost use mathlib.Core.Path.{_≡_};
 ghost use Rattle.values.specs.Values.{shownParts, shownIn, Into};
 
 // The parts of the memory that T shows.
-fn shown_parts(l: TypeLayout) -> Components
+pub fn shown_parts(l: TypeLayout) -> Components
     ensures { λ r. ⌜ r ≡ shownParts l ⌝ }
 {
     match l {
@@ -23,7 +23,7 @@ fn shown_parts(l: TypeLayout) -> Components
     }
 }
 
-fn shown_offsets(p: Components, offsets: &[u32]) -> &[u32]
+pub fn shown_offsets(p: Components, offsets: &[u32]) -> &[u32]
     ensures { λ r. ⌜ now r ≡ shownIn (now (offsets .entry)) p ⌝ }
 {
     match p {

@@ -1,7 +1,7 @@
--- `qptr::as_answer` meets its contract. Assumes nothing.
+-- `asked::as_answer` meets its contract. Assumes nothing.
 use borrow.Author.Needs.{needs}
-use Rattle.qptr.proofs.as_answer.Statement.{statement}
-use Rattle.qptr.proofs.as_answer.Tie as tie
+use Rattle.asked.proofs.as_answer.Statement.{statement}
+use Rattle.asked.proofs.as_answer.Tie as tie
 
 enum-known-l : tie.Need-enum-known-l
 enum-known-l c = search needs
