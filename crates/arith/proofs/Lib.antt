@@ -6,3 +6,4 @@ pub mod Fitting
 pub mod Ones
 pub mod Whole
 pub mod Examples
+pub mod Stores

@@ -1,13 +1,13 @@
 -- What a result that is not refused, a value that is not none, or a test that holds says of the steps that led to it. Assumes nothing.
 use Prim.Native.Nat.{ℕ, _≤_}
-use mathlib.Core.Path.{_≡_, refl, subst}
+use mathlib.Core.Path.{_≡_, refl, ap, subst}
 use mathlib.Core.Bool.{Bool, true, false, cond, _&&_, false≢true}
 use mathlib.Core.Option.{Option, none, some}
 use native.Mathlib.Omega.{arith}
-use lib.Dec.{leb}
-use borrow.Author.Tests.{leb-true}
+use lib.Dec.{leb, ltb}
+use borrow.Author.Tests.{leb-true, ltb-false}
 use Rattle.arith.specs.Options as options
-use Rattle.arith.specs.Refusals.{Result, ok, refused, _>>=_, _>>_, refuse_when_, refuse_unless_, overflow}
+use Rattle.arith.specs.Refusals.{Result, ok, refused, _>>=_, _>>_, refuse_when_, refuse_unless_, inRoom, overflow, short-list}
 use Rattle.arith.specs.Numbers.{max-u32, fit}
 
 pub never : {A : Type 0} {n : ℕ} {a : A} → _≡_ {A = Result A} (refused n) (ok a) → ⊥
@@ -147,3 +147,12 @@ pub record Let {A : Type 0} (t : Bool) (a b : A) : Type 0 where
 pub let-through : {A : Type 0} (t : Bool) (a b : A) → cond t (some a) none ≡ some b → Let t a b
 let-through true a b h = record { holds = refl; value = some-is h }
 let-through false a b h = absurd (no-some h)
+
+-- what is held in a room is no longer than it
+pub in-room : {A : Type 0} (room : ℕ) (count : A → ℕ) (r : Result A) {a : A} → inRoom room count r ≡ ok a → count a ≤ room
+unfolding inRoom
+in-room room count r {a} h =
+    let w = went r _ h in
+    let f = not-met short-list (ltb room (count (w .value))) (ok (w .value)) (w .rest) in
+    let e = value-is (passed (refuse short-list when ltb room (count (w .value))) (ok (w .value)) (w .rest)) in
+    omega (arith, ltb-false room (count (w .value)) f, ap count e)

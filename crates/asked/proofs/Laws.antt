@@ -1,53 +1,39 @@
 -- Laws of words that go into a lent list, and of the answers that they are. Assumes nothing.
 use Prim.Native.Nat.{ℕ, _+_, _-_, _<_, _≤_}
 use native.Mathlib.Omega.{arith}
-use mathlib.Core.Path.{_≡_, refl, sym, ap, _∙_, subst}
-use mathlib.Core.Bool.{Bool, true, false}
+use mathlib.Core.Path.{_≡_, refl, sym, ap, _∙_}
 use mathlib.Core.List.{List, [], _∷_, _++_}
 use mathlib.Core.Option.{Option, none, some}
-use lib.Dec.{ltb}
 use lib.ListN.{length}
 use lib.Seq.{sets}
-use borrow.Author.Tests.{lt-ltb, le-ltb, ltb-false}
+use borrow.Author.Tests.{lt-ltb, le-ltb}
 use Rattle.arith.specs.Pairs.{both}
-use Rattle.arith.specs.Refusals.{Result, ok, refused, _>>=_, _>>_, refuse_when_, inRoom, short-list}
-use Rattle.arith.proofs.Results.{value-is}
-use Rattle.spirv.proofs.Words.{sets-append}
+use Rattle.arith.specs.Refusals.{Result, ok, refused, _>>=_, _>>_, refuse_when_, inRoom}
+use Rattle.arith.proofs.Results.{in-room}
+use Rattle.arith.proofs.Stores.{sets-append}
 use Rattle.text.specs.declared.Answer as text
-use Rattle.text.specs.Whole.{Whole, over, held, written, answered}
+use Rattle.text.specs.Whole.{Whole, held, written, answered}
 use Rattle.sheet.proofs.Tables.{front}
 use Rattle.components.specs.declared.Lookup.{Lookup}
-use Rattle.components.specs.Found.{lookupIn, lookupBoth, answeredIn}
+use Rattle.components.specs.Found.{lookupBoth, answeredIn}
 use Rattle.shapes.specs.declared.MemLayout.{MemLayout}
 use Rattle.shapes.specs.declared.Components.{Components}
 use Rattle.shapes.specs.declared.Components.the-variants.{Scalar, Elements, Fields}
 use Rattle.shapes.specs.declared.Handle.the-variants.{Opaque, Buffer}
-use Rattle.shapes.specs.declared.MemTypeLayout.{MemTypeLayout}
 use Rattle.shapes.specs.declared.TypeLayout.{TypeLayout}
 use Rattle.shapes.specs.declared.TypeLayout.the-variants.{Handle, HandleArray, Concrete}
 use Rattle.shapes.specs.declared.Answer.{Answer}
 use Rattle.shapes.specs.declared.Answer.the-variants.{Laid, Refused}
 use Rattle.shapes.specs.Spans.{partsBy, spansOf, layoutBy, answerOver}
-use Rattle.shapes.specs.Shapes as def
 use Rattle.values.specs.Values.{shownIn, shownOf}
 use Rattle.pointers.specs.declared.ArrayLength.{ArrayLength}
 use Rattle.pointers.specs.declared.Variable.{Variable}
 use Rattle.pointers.specs.InCode.{asLength, asVariable}
 use Rattle.lower.specs.Other as other
-use Rattle.asked.specs.Asked.{inWords, strideWord, memoryWords, layoutWords}
-use Rattle.asked.specs.InCode.{asAnswer, strideIn, memoryHead, headOf, shownWords}
+use Rattle.asked.specs.Asked.{inWords, memoryWords, layoutWords}
+use Rattle.asked.specs.InCode.{asAnswer, memoryHead, headOf, shownWords}
 
 -- ---- words into a list
-
--- a list's room bounds what is written
-in-room : {A : Type 0} (room : ℕ) (r : Result (List A)) (l : List A) → inRoom room length r ≡ ok l → length l ≤ room
-unfolding inRoom _>>=_ _>>_ refuse_when_
-in-room room (refused n) l h = absurd (let z : _≡_ {A = ℕ} 0 1 = cc in omega arith)
-in-room {A} room (ok x) l h = by (ltb room (length x)) refl h
-  where
-    by : (t : Bool) → ltb room (length x) ≡ t → ((refuse short-list when t) >> ok x) ≡ ok l → length l ≤ room
-    by true f g = absurd (let z : _≡_ {A = ℕ} 0 1 = cc in omega arith)
-    by false f g = subst (λ (y : List A). length y ≤ room) (value-is g) (ltb-false room (length x) f)
 
 pub refused-whole : (e : ℕ) (old : List ℕ) → Whole (refused e) old (text.Answer.Refused e) old
 unfolding inRoom _>>=_ answered written
@@ -84,7 +70,7 @@ looked result old {l} {new} {a} h e = by (held (length old) result) refl h
     }
     by (ok found) i g = record {
       says = rw i (e ∙ ap (λ (p : Lookup × List ℕ). asAnswer (p .0)) g);
-      holds = rw i (ap (λ (p : Lookup × List ℕ). p .1) g ∙ front old found (in-room (length old) result found i));
+      holds = rw i (ap (λ (p : Lookup × List ℕ). p .1) g ∙ front old found (in-room (length old) length result i));
     }
 
 -- ---- L and X: what the code's answer was made from

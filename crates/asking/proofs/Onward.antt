@@ -4,29 +4,21 @@ use native.Mathlib.Omega.{arith}
 use mathlib.Core.Path.{_≡_, refl, sym, ap, _∙_}
 use mathlib.Core.List.{List, [], _∷_, _++_}
 use mathlib.Core.Option.{Option}
-use lib.ListN.{length, drop, length-append}
-use Rattle.spirv.specs.declared.Index.{Index}
-use Rattle.spirv.specs.Rows.{encodeIndex}
+use lib.ListN.{length, drop}
 use Rattle.spirv.specs.Questions.{Question}
-use Rattle.spirv.proofs.Rows.{index-length}
 use Rattle.sheet.specs.Fields.{readIndex, readAll}
 use Rattle.sheet.specs.Grammar.{Line, readLine}
-use Rattle.sheet.specs.Sheet.{indexCount}
 use Rattle.sheet.proofs.Tables.{front}
 use Rattle.fields.specs.Pieces.{part, Piece, behind}
 use Rattle.fields.proofs.Pieces.{split-some, split-end}
 use Rattle.lines.specs.declared.Ask.{Ask}
-use Rattle.lines.specs.declared.Ask.the-variants as ask
 use Rattle.lines.specs.Says.{countOf, questionOf, Asks, indexWords, Stored}
+use Rattle.lines.proofs.Indices.{question-count, index-words-length}
 use Rattle.asking.specs.declared.NextQuestion.{NextQuestion}
 use Rattle.asking.specs.declared.NextQuestion.the-variants as next
 use Rattle.asking.specs.Questions.{any-type, askedIn, questionsIn, questionsFrom, Hands, Handed, Short, Steps}
 
 -- ---- a question's indices
-
-index-words-length : (is : List Index) → length (indexWords is) ≡ 2 * length is
-index-words-length [] = refl
-index-words-length (i ∷ is) = omega (arith, length-append (encodeIndex i) (indexWords is), index-length i, index-words-length is)
 
 pub handed : (line : List ℕ) (a : Ask) (at k : ℕ) {old new : List ℕ} → 2 * countOf a ≤ length old → Stored (readAll readIndex (behind line at)) old new → Handed line a at k a k old new
 handed line a at k {old} {new} h s = record {
@@ -34,14 +26,6 @@ handed line a at k {old} {new} h s = record {
   place = refl;
   list = λ is q c. s .words is q ∙ front old (indexWords is) (omega (arith, index-words-length is));
 }
-
-question-count : (a : Ask) (is : List Index) → length is ≡ countOf a → indexCount (questionOf a is) ≡ countOf a
-question-count (ask.T t) is e = refl
-question-count (ask.E a b) is e = refl
-question-count (ask.Q t start end) is e = refl
-question-count (ask.C op ptr n) is e = e
-question-count (ask.L ptr member) is e = refl
-question-count (ask.X ptr) is e = refl
 
 -- ---- no line more
 

@@ -13,7 +13,7 @@ use Rattle.spirv.specs.declared.DeclRow.{DeclRow}
 use Rattle.spirv.specs.declared.RowReading.{RowReading}
 use Rattle.spirv.specs.declared.RowReading.the-variants.{Row, Broken}
 use Rattle.spirv.specs.Rows.{rowAt}
-use Rattle.spirv.proofs.Words.{sets-append}
+use Rattle.arith.proofs.Stores.{sets-append}
 use Rattle.shapes.specs.declared.LayoutConfig.{LayoutConfig}
 use Rattle.shapes.specs.Settings.{settingOf}
 use Rattle.shapes.specs.Rows.{flat}
@@ -29,6 +29,7 @@ use Rattle.records.specs.Records.{byRuleOfRow, layoutOfRow, belowOf, withNext, 
 use Rattle.records.specs.declared.Filling.{Filling}
 use Rattle.records.proofs.Filled.{records-length}
 use Rattle.reading.specs.declared.SheetAnswer.{SheetAnswer}
+use Rattle.reading.proofs.Told.{told-refused}
 use Rattle.reading.specs.Reads.{told, wordsIn, into, ReadsInto}
 use Rattle.laid.specs.Statements.{answersOf}
 use Rattle.joined.proofs.Made.{setting-back}
@@ -169,12 +170,8 @@ module _ {input : List ℕ} {r : SheetAnswer} {se ty me gi : List ℕ} (x : Read
   pub read-refused : (e : ℕ) → r ≡ SheetAnswer.Refused e → ReadsTable input (SheetAnswer.Refused e) old old
   unfolding inRoom _>>=_
   read-refused e h =
-      let o = by (readSheet input) (sym h ∙ (x .answer ∙ ap told (all-held input))) in
+      let o = told-refused (readSheet input) (sym h ∙ (x .answer ∙ ap told (all-held input))) in
       record { answer = rw o; words = rw o }
-    where
-      by : (o : Result Sheet) → SheetAnswer.Refused e ≡ told o → o ≡ refused e
-      by (refused m) k = let z : m ≡ e = cc in ap refused z
-      by (ok s) k = absurd (let z : _≡_ {A = ℕ} 0 1 = cc in omega arith)
 
   module _ (n : ℕ) (h : r ≡ SheetAnswer.Types n) where
     pub record Came : Type 0 where

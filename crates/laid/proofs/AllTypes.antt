@@ -10,12 +10,12 @@ use Rattle.arith.specs.Refusals.{refused, misread}
 use Rattle.arith.proofs.Results.{no-some, some-is}
 use Rattle.spirv.specs.Decl.{Decl, filledAfter, filled}
 use Rattle.shapes.specs.declared.LayoutConfig.{LayoutConfig}
-use Rattle.shapes.specs.Shapes as def
 use Rattle.shapes.specs.Spans.{spansOf, answerOver}
 use Rattle.shapes.specs.declared.Answer as code
 use Rattle.shapes.specs.declared.Answer.the-variants.{Refused}
 use Rattle.sheet.specs.Sheet.{memberCount}
 use Rattle.sheet.specs.Tables.{spanStart}
+use Rattle.sheet.proofs.Types.{members-append}
 use Rattle.layout.specs.Arrays.{Answer}
 use Rattle.layout.specs.Layouts.{layoutOf, layouts}
 use Rattle.structs.specs.Statements.{Holds}
@@ -54,10 +54,6 @@ element [] k h = absurd (omega arith)
 element (d ∷ ds) zero h = record { decl = d; at = refl }
 element (d ∷ ds) (suc k) h = let e = element ds k (omega arith) in record { decl = e .decl; at = e .at }
 
-count-snoc : (ds : List Decl) (d : Decl) → memberCount (ds ++ (d ∷ [])) ≡ memberCount ds + length (d .members)
-count-snoc [] d = omega arith
-count-snoc (c ∷ ds) d = rw (count-snoc ds d) (omega arith)
-
 -- ---- filled lists
 
 module _ {A : Type 0} (missing : A) (rule : (below : ℕ → A) → Decl → A) where
@@ -89,7 +85,7 @@ module _ (cfg : LayoutConfig) (ds : List Decl) (types members given offsets : Li
       (λ t. reads-same (spansOf (o .1) members) (spansOf os members) start (λ s c h. rw (r .kept s c h)) (b t) (u .reach t)) in
       let below : _≡_ {A = ℕ → Answer} (λ t. answerOver os members (b t)) (λ t. getD (layouts cfg (take k ds)) t (refused misread)) =
       fun-ext λ t. sym (List·getD-map (answerOver os members) rs t (Refused misread)) ∙ ap (λ (l : List Answer). getD l t (refused misread)) (u .same) in
-      let count : spanStart ds (suc k) ≡ start + length (d .members) = ap memberCount (take-more ds k d at) ∙ count-snoc (take k ds) d in
+      let count : spanStart ds (suc k) ≡ start + length (d .members) = ap memberCount (take-more ds k d at) ∙ members-append (take k ds) d in
       record {
         same =
             map-snoc (answerOver (o .1) members) rs (o .0)

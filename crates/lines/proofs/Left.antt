@@ -16,7 +16,7 @@ use Rattle.spirv.specs.declared.ChainOp.{ChainOp}
 use Rattle.spirv.specs.declared.Index.{Index}
 use Rattle.spirv.specs.Rows.{encodeIndex}
 use Rattle.spirv.specs.Questions.{Question}
-use Rattle.spirv.proofs.Words.{sets-append}
+use Rattle.arith.proofs.Stores.{sets-append}
 use Rattle.sheet.specs.Fields.{readType, readIndex, readAll, end, types, indices}
 use Rattle.sheet.specs.Grammar.{Declared, Asked, declare, declareStruct}
 use Rattle.fields.specs.Pieces.{behind}

@@ -13,8 +13,8 @@ use Rattle.spirv.specs.Rows.{encodeIndex}
 use Rattle.spirv.specs.Questions.{Question}
 use Rattle.sheet.specs.Sheet.{indexCount, max-indices}
 use Rattle.lines.specs.declared.Ask.{Ask}
-use Rattle.lines.specs.declared.Ask.the-variants as ask
 use Rattle.lines.specs.Says.{countOf, questionOf, indexWords}
+use Rattle.lines.proofs.Indices.{question-count, index-words-length}
 use Rattle.asking.specs.declared.NextQuestion.{NextQuestion}
 use Rattle.asking.specs.declared.NextQuestion.the-variants as next
 use Rattle.asking.specs.Questions.{questionsFrom, Next, Short, Ended, Steps}
@@ -27,12 +27,6 @@ use Rattle.listing.specs.Listing.{answerable, linesFrom, FirstLine}
 
 -- ---- indices as words
 
-words-length : (is : List Index) → length (indexWords is) ≡ 2 * length is
-unfolding encodeIndex
-words-length [] = refl
-words-length (Known w ∷ is) = let r = words-length is in omega arith
-words-length (Unknown v ∷ is) = let r = words-length is in omega arith
-
 words-back : (is : List Index) → indicesIn (indexWords is) ≡ is
 unfolding encodeIndex indicesIn
 words-back [] = refl
@@ -41,31 +35,23 @@ words-back (Unknown v ∷ is) = ap (λ (l : List Index). Unknown v ∷ l) (words
 
 -- ---- a question whose indices were written
 
-count-as : (a : Ask) (is : List Index) → length is ≡ countOf a → indexCount (questionOf a is) ≡ countOf a
-count-as (ask.T t) is h = refl
-count-as (ask.E t u) is h = refl
-count-as (ask.Q t start end) is h = refl
-count-as (ask.C op ptr n) is h = h
-count-as (ask.L ptr member) is h = refl
-count-as (ask.X ptr) is h = refl
-
 module _ {sheet : List ℕ} {at n : ℕ} {a : Ask} {old new : List ℕ} (x : Next sheet at a n old new) (room : length new ≡ 510) where
   few-indices : countOf a ≤ max-indices
   few-indices =
-      let w = words-length (x .indices) in
+      let w = index-words-length (x .indices) in
       omega (arith, ap length (x .list), length-append (indexWords (x .indices)) (drop (length (indexWords (x .indices))) old), x .count)
 
   -- it is the one that stands in the list
   is-question : questionIn a new ≡ questionOf a (x .indices)
   is-question =
-      let w = words-length (x .indices) in
+      let w = index-words-length (x .indices) in
       let k : min (2 * countOf a) 510 ≡ length (indexWords (x .indices)) = omega (arith, few-indices, x .count) in
       let t : chainWords (countOf a) new ≡ indexWords (x .indices) = rw (x .list, k) (take-at (indexWords (x .indices)) (drop (length (indexWords (x .indices))) old) (length (indexWords (x .indices))) refl) in
       ap (questionOf a) (ap indicesIn t ∙ words-back (x .indices))
 
   pub first-question : answerable (questionsFrom sheet at) ≡ questionIn a new ∷ answerable (questionsFrom sheet n)
   unfolding answerable
-  first-question = rw (x .first, le-leb (indexCount (questionOf a (x .indices))) max-indices (omega (arith, count-as a (x .indices) (x .count), few-indices)), is-question)
+  first-question = rw (x .first, le-leb (indexCount (questionOf a (x .indices))) max-indices (omega (arith, question-count a (x .indices) (x .count), few-indices)), is-question)
 
   pub line-first : (s : Source) → FirstLine s sheet at (textOf (answerBy s (questionIn a new)))
   line-first s = record { question = questionIn a new; rest = answerable (questionsFrom sheet n); first = first-question; is = refl }

@@ -7,7 +7,7 @@ use mathlib.Core.List.{List, [], _∷_, _++_, append-nil}
 use mathlib.Core.Logic.{⊎-elim}
 use lib.ListN.{length, take, drop, set}
 use lib.Seq.{sets, sets-eq, take-at, take-set-le}
-use Rattle.text.proofs.Laws.{sets-append}
+use Rattle.arith.proofs.Stores.{sets-append}
 use Rattle.asking.specs.Questions.{questionsFrom}
 use Rattle.answers.specs.Lines.{Source, answerBy}
 use Rattle.answers.specs.Output.{linesBy}

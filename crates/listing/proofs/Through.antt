@@ -8,7 +8,8 @@ use Rattle.arith.specs.Refusals.{ok, short-list}
 use Rattle.text.specs.Printed.{Printed}
 use Rattle.text.specs.Whole.{Whole}
 use Rattle.text.specs.declared.Answer.{Answer}
-use Rattle.text.proofs.Laws.{sets-past, in-place}
+use Rattle.arith.proofs.Stores.{sets-past}
+use Rattle.text.proofs.Laws.{in-place}
 use Rattle.text.proofs.AllOrNothing.{too-long, all-written}
 
 measured : (text : List ℕ) {own m : List ℕ} {n : ℕ} → Printed text own 0 n m → Printed text [] 0 n []

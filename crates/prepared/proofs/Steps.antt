@@ -11,6 +11,7 @@ use Rattle.shapes.specs.Settings.{settingOf}
 use Rattle.sheet.specs.Sheet.{Sheet, max-members, readSheet}
 use Rattle.sheet.specs.Tables.{over, settingWords, typesWords, membersWords, offsetsWords, held}
 use Rattle.reading.specs.declared.SheetAnswer.{SheetAnswer}
+use Rattle.reading.proofs.Told.{told-refused}
 use Rattle.reading.specs.Reads.{told, wordsIn, into, ReadsInto}
 use Rattle.records.specs.declared.Filling.{Filling}
 use Rattle.records.specs.Records.{filling}
@@ -33,12 +34,8 @@ module _ (input : List ℕ) {r : SheetAnswer} {se ty me gi se′ ty′ me′ gi�
 
   pub refused-ready : (e : ℕ) → r ≡ SheetAnswer.Refused e → (os la : List ℕ) → Prepares input (Ready.Refused e) ty me os la ty′ me′ os la
   refused-ready e h os la =
-      let o = by (readInto input ty me) (sym h ∙ (x .answer ∙ ap told same)) in
+      let o = told-refused (readInto input ty me) (sym h ∙ (x .answer ∙ ap told same)) in
       record { says = rw o; types = types; members = members; laid = rw o }
-    where
-      by : (o : Result Sheet) → SheetAnswer.Refused e ≡ told o → o ≡ refused e
-      by (refused m) k = let z : m ≡ e = cc in ap refused z
-      by (ok s) k = absurd (let z : _≡_ {A = ℕ} 0 1 = cc in omega arith)
 
   -- ---- and laid out
 

@@ -2,16 +2,11 @@
 use Prim.Native.Nat.{ℕ, zero, suc, _+_, _<_}
 use native.Mathlib.Omega.{arith}
 use native.Mathlib.Numerals.{add-one}
-use mathlib.Core.Path.{_≡_, refl, ap, _∙_}
+use mathlib.Core.Path.{_≡_, refl, ap}
 use mathlib.Core.List.{List, [], _∷_, _++_}
 use lib.ListN.{length, set, replicate, length-replicate}
-use lib.Seq.{sets, set-set, set-comm}
-use Rattle.spirv.proofs.Words.{sets-append}
-
--- a store before others
-before-others : (vs l : List ℕ) (i j v : ℕ) → i < j → set (sets l j vs) i v ≡ sets (set l i v) j vs
-before-others [] l i j v h = refl
-before-others (w ∷ vs) l i j v h = before-others vs (set l j w) i (suc j) v (omega arith) ∙ ap (λ (x : List ℕ). sets x (suc j) vs) (set-comm l j i w v (λ e. absurd (omega arith)))
+use lib.Seq.{sets, set-set}
+use Rattle.arith.proofs.Stores.{sets-append, set-before}
 
 -- the same places again
 pub sets-again : (vs ws l : List ℕ) (i : ℕ) → length vs ≡ length ws → sets (sets l i vs) i ws ≡ sets l i ws
@@ -19,14 +14,14 @@ sets-again [] [] l i h = refl
 sets-again [] (w ∷ ws) l i h = absurd (omega arith)
 sets-again (v ∷ vs) [] l i h = absurd (omega arith)
 sets-again (v ∷ vs) (w ∷ ws) l i h =
-    rw (before-others vs (set l i v) i (suc i) w (omega arith), set-set l i v w) (sets-again vs ws (set l i w) (suc i) (omega arith))
+    rw (set-before vs (set l i v) i (suc i) w (omega arith), set-set l i v w) (sets-again vs ws (set l i w) (suc i) (omega arith))
 
 -- one of them
 pub set-in : (vs l : List ℕ) (i k v : ℕ) → k < length vs → set (sets l i vs) (i + k) v ≡ sets l i (set vs k v)
 set-in [] l i k v h = absurd (omega arith)
 set-in (w ∷ vs) l i zero v h =
     let z : i + 0 ≡ i = omega arith in
-    rw (z, before-others vs (set l i w) i (suc i) v (omega arith), set-set l i w v)
+    rw (z, set-before vs (set l i w) i (suc i) v (omega arith), set-set l i w v)
 set-in (w ∷ vs) l i (suc k) v h = let z : i + suc k ≡ suc i + k = omega arith in rw z (set-in vs (set l i w) (suc i) k v (omega arith))
 
 -- the words behind the first anew

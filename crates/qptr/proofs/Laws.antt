@@ -2,16 +2,15 @@
 use Prim.Native.Nat.{ℕ, zero, suc, _-_, _≤_, _<_, min}
 use native.Mathlib.Omega.{arith}
 use mathlib.Core.Path.{_≡_, refl, sym, ap, _∙_, subst}
-use mathlib.Core.Bool.{Bool, true, false, cond}
+use mathlib.Core.Bool.{Bool, cond}
 use mathlib.Core.List.{List}
-use lib.Dec.{ltb}
 use lib.IntN.{ℤ, pos, negsuc, negℤ, _-ℤ_}
 use lib.ListN.{length}
 use mir.Syntax.{w64}
 use mir.Val.{SFits}
-use borrow.Author.Tests.{lt-ltb, ltb-false}
-use Rattle.arith.specs.Refusals.{Result, ok, refused, _>>=_, _>>_, refuse_when_, inRoom, short-list}
-use Rattle.arith.proofs.Results.{went, passed, value-is}
+use borrow.Author.Tests.{lt-ltb}
+use Rattle.arith.specs.Refusals.{Result, ok, refused}
+use Rattle.arith.proofs.Results.{went, passed, in-room}
 use Rattle.spirv.specs.declared.ChainOp.{ChainOp}
 use Rattle.spirv.specs.declared.Index.{Index}
 use Rattle.reading.specs.declared.SheetAnswer.{SheetAnswer}
@@ -35,23 +34,13 @@ pub minus-fits : (e : ℕ) → e < 4294967296 → SFits w64 (negℤ (pos e))
 minus-fits zero h = record { sfits = omega arith }
 minus-fits (suc e) h = record { sfits = omega arith }
 
--- a list's room bounds what is written
-in-room : {A : Type 0} (room : ℕ) (r : Result (List A)) (l : List A) → inRoom room length r ≡ ok l → length l ≤ room
-unfolding inRoom _>>=_ _>>_ refuse_when_
-in-room room (refused n) l h = absurd (let z : _≡_ {A = ℕ} 0 1 = cc in omega arith)
-in-room {A} room (ok x) l h = by (ltb room (length x)) refl h
-  where
-    by : (t : Bool) → ltb room (length x) ≡ t → ((refuse short-list when t) >> ok x) ≡ ok l → length l ≤ room
-    by true f g = absurd (let z : _≡_ {A = ℕ} 0 1 = cc in omega arith)
-    by false f g = subst (λ (y : List A). length y ≤ room) (value-is g) (ltb-false room (length x) f)
-
 pub small : {result : Result (List ℕ)} {old new : List ℕ} {r : Answer} → length old < 9223372036854775808 → Whole result old r new → Small r
 unfolding answered
 small {result} {old} h w = subst Small (sym (w .says)) (by (held (length old) result) refl)
   where
     by : (o : Result (List ℕ)) → held (length old) result ≡ o → Small (answered o)
     by (refused e) i = tt
-    by (ok l) i = let k = in-room (length old) result l i in omega arith
+    by (ok l) i = let k = in-room (length old) length result i in omega arith
 
 pub told : {sheet old new : List ℕ} {a : Answer} {x : ℤ} → Whole (ok (layOutput sheet)) old a new → x ≡ codeOf a → Answered sheet old x new
 told w e = record { says = e ∙ ap codeOf (w .says); holds = w .holds }
@@ -60,7 +49,7 @@ told w e = record { says = e ∙ ap codeOf (w .says); holds = w .holds }
 
 steps-in : (room : ℕ) (table : List ℕ) (o : ChainOp) (ptr : ℕ) (is : List Index) (steps : List QPtrOp) → chainAt room table o ptr is ≡ ok steps → length steps ≤ room
 unfolding chainAt
-steps-in room table o ptr is steps h = let k = in-room (min (places (length is)) room) _ steps (passed _ _ (passed _ _ h)) in omega arith
+steps-in room table o ptr is steps h = let k = in-room (min (places (length is)) room) length _ (passed _ _ (passed _ _ h)) in omega arith
 
 pub small-walk : (table : List ℕ) (op ptr : ℕ) (indices old : List ℕ) {new : List ℕ} {w : Walk} → length old < 9223372036854775808
     → Lowered (chainIn (roomIn old) table op ptr indices) w old new → SmallWalk w

@@ -3,25 +3,14 @@ use Prim.Native.Nat.{ℕ, _+_, _≤_}
 use native.Mathlib.Omega.{arith}
 use mathlib.Core.Path.{_≡_, refl, sym, ap, _∙_}
 use mathlib.Core.List.{List, _++_}
-use lib.Dec.{ltb}
 use lib.ListN.{length, take, drop, length-append}
 use lib.Seq.{sets, sets-eq, take-at}
-use borrow.Author.Tests.{ltb-false}
 use Rattle.arith.specs.Pairs.{both}
-use Rattle.arith.specs.Refusals.{Result, ok, refused, refuse_when_, short-list, inRoom}
-use Rattle.arith.proofs.Results.{went, value-is, passed, not-met}
+use Rattle.arith.specs.Refusals.{Result, ok, refused, inRoom}
+use Rattle.arith.proofs.Results.{in-room}
 use Rattle.components.specs.Found.{lookupBoth, answeredIn}
 use Rattle.components.specs.declared.Lookup.{Lookup}
 use Rattle.components.specs.declared.Lookup.the-variants.{Found, Refused}
-
--- a list that has room has at most so many
-pub in-room-fits : {A : Type 0} (room : ℕ) (count : A → ℕ) (r : Result A) {a : A} → inRoom room count r ≡ ok a → count a ≤ room
-unfolding inRoom
-in-room-fits room count r {a} h =
-    let w = went r _ h in
-    let f = not-met short-list (ltb room (count (w .value))) (ok (w .value)) (w .rest) in
-    let e = value-is (passed (refuse short-list when ltb room (count (w .value))) (ok (w .value)) (w .rest)) in
-    omega (arith, ltb-false room (count (w .value)) f, ap count e)
 
 -- so many were found, and stand in front of the list
 pub record FoundAs (room : ℕ) (r : Result (List ℕ)) (count : ℕ) (new : List ℕ) : Type 0 where
@@ -38,7 +27,7 @@ module _ (old : List ℕ) (r : Result (List ℕ)) {x : Lookup} {new : List ℕ} 
           let c : Found count ≡ Found (length l) = ap (λ (p : Lookup × List ℕ). p .0) k in
           let n : new ≡ sets old 0 l = ap (λ (p : Lookup × List ℕ). p .1) k in
           let size : count ≡ length l = cc in
-          let fit = in-room-fits (length old) length r g in
+          let fit = in-room (length old) length r g in
           let s : new ≡ l ++ drop (0 + length l) old = n ∙ sets-eq l old 0 (omega arith) in
           let t : take count new ≡ l = rw (s, size) (take-at l (drop (0 + length l) old) (length l) refl) in
           record { fits = omega (arith, ap length s, length-append l (drop (0 + length l) old)); found = rw t g }

@@ -4,26 +4,16 @@ use native.Mathlib.Omega.{arith}
 use native.Mathlib.Numerals.{add-one}
 use mathlib.Core.Path.{_≡_, refl, sym, ap}
 use mathlib.Core.Bool.{Bool, true, false, _&&_}
-use mathlib.Core.List.{List, [], _∷_, _++_}
+use mathlib.Core.List.{List, [], _∷_}
 use borrow.Author.Tests.{eq-eqb, ne-eqb, eqb-true}
 use lib.Dec.{eqb}
 use lib.ListN.{length, getD, take, drop, set, length-set, length-take, length-drop}
-use lib.Seq.{sets, set-out, take-suc, length-take-le, drop-cons}
+use lib.Seq.{sets, take-suc, length-take-le, drop-cons}
+use Rattle.arith.proofs.Stores.{sets-append, sets-past}
 use Rattle.arith.proofs.Results.{first-true, second-true}
 use Rattle.spirv.specs.Rows.{sameWords}
 
 -- ---- stores
-
-pub sets-append : (l : List ℕ) (i : ℕ) (a b : List ℕ) → sets l i (a ++ b) ≡ sets (sets l i a) (i + length a) b
-sets-append l i [] b = let e : i + 0 ≡ i = omega arith in rw e
-sets-append l i (v ∷ a) b =
-    let e : i + suc (length a) ≡ suc i + length a = omega arith in
-    rw e (sets-append (set l i v) (suc i) a b)
-
--- past the end nothing is stored
-pub sets-out : (l : List ℕ) (i : ℕ) (vs : List ℕ) → length l ≤ i → sets l i vs ≡ l
-sets-out l i [] h = refl
-sets-out l i (v ∷ vs) h = rw (set-out l i v h) (sets-out l (suc i) vs (omega arith))
 
 -- one more store, of the word that stands at i
 pub one-more : (l : List ℕ) (at : ℕ) (w : List ℕ) (i d : ℕ) → i < length w → set (sets l at (take i w)) (at + i) (getD w i d) ≡ sets l at (take (i + 1) w)
@@ -33,7 +23,7 @@ one-more l at w i d h =
 -- where i words reach the end, the rest is left out
 pub rest-out : (l : List ℕ) (at : ℕ) (w : List ℕ) (i : ℕ) → i ≤ length w → length l ≤ at + i → sets l at (take i w) ≡ sets l at w
 rest-out l at [] i h k = let e : i ≡ 0 = omega arith in rw e
-rest-out l at (v ∷ w) Prim.Native.Nat.zero h k = sym (sets-out l at (v ∷ w) (omega arith))
+rest-out l at (v ∷ w) Prim.Native.Nat.zero h k = sym (sets-past l at (v ∷ w) (omega arith))
 rest-out l at (v ∷ w) (suc i) h k = rest-out (set l at v) (suc at) w i (omega arith) (rw (length-set l at v) (omega arith))
 
 -- ---- the same words

@@ -2,13 +2,14 @@
 use Prim.Native.Nat.{ℕ, zero, suc, _<_, _≤_}
 use native.Mathlib.Omega.{arith}
 use mathlib.Core.Path.{_≡_, refl, sym, ap, _∙_}
-use mathlib.Core.Bool.{Bool, true, false, _&&_, false≢true}
+use mathlib.Core.Bool.{true}
 use mathlib.Core.List.{List, [], _∷_, _++_}
 use lib.ListN.{length, take, getD}
 use lib.Seq.{take-suc, take-length}
 use Rattle.spirv.specs.declared.Index.the-variants.{Known, Unknown}
 use Rattle.lower.specs.declared.QPtrOp.{QPtrOp}
 use Rattle.lower.specs.declared.QPtrOp.the-variants.{HandleArrayIndex, BufferData, Offset, DynOffset}
+use Rattle.arith.proofs.Results.{first-true, second-true}
 use Rattle.steps.specs.declared.StepWords.{StepWords}
 use Rattle.steps.specs.Words.{encode, decode, offsetFits, ReadsBack}
 use Rattle.steps.specs.Lists.{stepAt, stepsIn, column, offsetsFit, ListsReadBack}
@@ -25,18 +26,10 @@ reads-back (DynOffset stride bound (Unknown v)) h = refl
 
 -- ---- lists
 
-fits-first : (a b : Bool) → a && b ≡ true → a ≡ true
-fits-first true b h = refl
-fits-first false b h = absurd (false≢true h)
-
-fits-rest : (a b : Bool) → a && b ≡ true → b ≡ true
-fits-rest true b h = h
-fits-rest false b h = absurd (false≢true h)
-
 fits-at : (steps : List QPtrOp) (j : ℕ) → offsetsFit steps ≡ true → offsetFits (getD steps j BufferData) ≡ true
 fits-at [] j h = refl
-fits-at (s ∷ ss) zero h = fits-first (offsetFits s) (offsetsFit ss) h
-fits-at (s ∷ ss) (suc j) h = fits-at ss j (fits-rest (offsetFits s) (offsetsFit ss) h)
+fits-at (s ∷ ss) zero h = first-true (offsetFits s) (offsetsFit ss) h
+fits-at (s ∷ ss) (suc j) h = fits-at ss j (second-true (offsetFits s) (offsetsFit ss) h)
 
 in-column : (word : StepWords → ℕ) (steps : List QPtrOp) (rest : List ℕ) (j : ℕ) → j < length steps
     → getD (column word steps ++ rest) j 0 ≡ word (encode (getD steps j BufferData))

@@ -1,23 +1,17 @@
 -- Steps stored behind others, and others in front of them, are all stored. Assumes nothing.
-use Prim.Native.Nat.{ℕ, suc, _+_, _<_, _≤_}
+use Prim.Native.Nat.{ℕ, suc, _+_, _≤_}
 use native.Mathlib.Omega.{arith}
 use native.Mathlib.Nat.{suc-add}
-use mathlib.Core.Path.{_≡_, refl, sym, ap, _∙_, subst}
-use mathlib.Core.List.{List, [], _∷_, _++_, map, map-append}
+use mathlib.Core.Path.{_≡_, refl, sym, ap, _∙_}
+use mathlib.Core.List.{List, [], _∷_, _++_, map-append}
 use lib.ListN.{length, set, length-map}
-use lib.Seq.{sets, set-comm}
-use Rattle.text.proofs.Laws.{sets-append}
+use lib.Seq.{sets}
+use Rattle.arith.proofs.Stores.{sets-append, set-before}
 use Rattle.lower.specs.declared.QPtrOp.{QPtrOp}
 use Rattle.steps.specs.declared.StepWords.{StepWords}
 use Rattle.steps.specs.Words.{encode}
 use Rattle.steps.specs.Lists.{column}
 use Rattle.steps.specs.Stored.{StoredAt}
-
--- a word in front of what is stored
-set-before : (b l : List ℕ) (i j x : ℕ) → i < j → set (sets l j b) i x ≡ sets (set l i x) j b
-set-before [] l i j x h = refl
-set-before (v ∷ vs) l i j x h =
-    set-before vs (set l j v) i (suc j) x (omega arith) ∙ ap (λ (y : List ℕ). sets y (suc j) vs) (set-comm l j i v x (λ e. omega arith))
 
 sets-before : (a b l : List ℕ) (i j : ℕ) → i + length a ≤ j → sets (sets l j b) i a ≡ sets (sets l i a) j b
 sets-before [] b l i j h = refl

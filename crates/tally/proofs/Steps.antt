@@ -14,21 +14,20 @@ use Rattle.spirv.specs.declared.Decoration.the-variants.{RowMajor, Offset}
 use Rattle.spirv.specs.declared.MemberDecoration.{MemberDecoration}
 use Rattle.spirv.specs.declared.SpvType.{SpvType}
 use Rattle.spirv.specs.declared.DeclRow.{DeclRow}
-use Rattle.spirv.specs.declared.Index.{Index}
 use Rattle.spirv.specs.Decl.{Decl, isStruct, before}
 use Rattle.spirv.specs.Rows.{structRow}
 use Rattle.spirv.specs.Reduced.{reduced, declRow}
 use Rattle.shapes.specs.declared.LayoutConfig.{LayoutConfig}
 use Rattle.sheet.specs.Fields.{readType, readAll}
 use Rattle.sheet.specs.Grammar.{Line, Setting, Declared, Decorated, Asked}
-use Rattle.sheet.specs.Sheet.{Sheet, memberCount, indexCount, takesDecoration, rises, firstLine, goodSetting, nextLine, formed, max-types, max-members, max-indices}
+use Rattle.sheet.specs.Sheet.{Sheet, memberCount, takesDecoration, rises, firstLine, goodSetting, nextLine, formed, max-types, max-members, max-indices}
 use Rattle.sheet.proofs.Types.{members-append}
 use Rattle.fields.specs.Pieces.{behind}
 use Rattle.lines.specs.declared.Ask.{Ask}
-use Rattle.lines.specs.declared.Ask.the-variants as ask
 use Rattle.lines.specs.declared.SheetLine.{SheetLine}
 use Rattle.lines.specs.declared.SheetLine.the-variants as says
 use Rattle.lines.specs.Says.{countOf, questionOf, Asks, Says}
+use Rattle.lines.proofs.Indices.{question-count}
 use Rattle.tally.specs.declared.Place.{Place}
 use Rattle.tally.specs.declared.Place.the-variants.{Closed, Open, After}
 use Rattle.tally.specs.declared.Tally.{Tally}
@@ -188,14 +187,6 @@ module _ {s : Sheet} {previous : Line} {t : Tally} (m : Matches s previous t) wh
 
   abbrev withQuestion : Rattle.spirv.specs.Questions.Question → Sheet
   withQuestion q = record { setting = s .setting; types = s .types; questions = s .questions ++ (q ∷ []) }
-
-  question-count : (a : Ask) (is : List Index) → length is ≡ countOf a → indexCount (questionOf a is) ≡ countOf a
-  question-count (ask.T t) is e = refl
-  question-count (ask.E a b) is e = refl
-  question-count (ask.Q t start end) is e = refl
-  question-count (ask.C op ptr n) is e = e
-  question-count (ask.L ptr member) is e = refl
-  question-count (ask.X ptr) is e = refl
 
   module _ {line : List ℕ} {a : Ask} {at : ℕ} {o : Option Line} (w : Asks line a at o) where
     ask-next : nextLine s previous (Asked (questionOf a (w .indices))) ≡ cond (leb (countOf a) max-indices) (ok (withQuestion (questionOf a (w .indices)))) (refused oversize)

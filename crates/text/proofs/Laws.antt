@@ -1,26 +1,16 @@
 -- Laws of `Printed`. Assumes nothing.
-use Prim.Native.Nat.{ℕ, suc, _+_, _<_, _≤_}
+use Prim.Native.Nat.{ℕ, _+_, _<_, _≤_}
 use native.Mathlib.Omega.{arith}
 use native.Mathlib.Numerals.{add-one}
 use mathlib.Core.Path.{_≡_, refl, sym, ap, _∙_}
 use mathlib.Core.Bool.{Bool, true, false}
 use mathlib.Core.List.{List, [], _∷_, _++_}
 use lib.Dec.{leb}
-use lib.ListN.{length, set, take, drop, getD, length-append}
+use lib.ListN.{length, take, drop, getD, length-append}
 use lib.Seq.{sets, sets-eq, set-out, length-sets, take-suc, slice, take-at, drop-at, length-take-le}
 use borrow.Author.Tests.{leb-true, leb-false}
+use Rattle.arith.proofs.Stores.{sets-append, sets-past}
 use Rattle.text.specs.Printed.{Printed, after}
-
--- stores past the end leave a list as it is
-pub sets-past : (l : List ℕ) (i : ℕ) (vs : List ℕ) → length l ≤ i → sets l i vs ≡ l
-sets-past l i [] h = refl
-sets-past l i (v ∷ vs) h = rw (set-out l i v h) (sets-past l (suc i) vs (omega arith))
-
-pub sets-append : (l : List ℕ) (i : ℕ) (a b : List ℕ) → sets l i (a ++ b) ≡ sets (sets l i a) (i + length a) b
-sets-append l i [] b = let e : i + 0 ≡ i = omega arith in rw e
-sets-append l i (v ∷ a) b =
-    let e : i + suc (length a) ≡ suc i + length a = omega arith in
-    rw e (sets-append (set l i v) (suc i) a b)
 
 -- nothing printed
 pub none : (l : List ℕ) (at : ℕ) → at < 18446744073709551616 → Printed [] l at at l
