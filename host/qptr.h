@@ -9,6 +9,7 @@
 #define QPTR_INDEX_BYTES 8    /* an index: its word, then 0 (known) or 1 (unknown); words are little-endian */
 #define QPTR_STEP_BYTES 20    /* a step: kind, bytes or stride, length or 0, 1 where its index is unknown, the index */
 #define QPTR_MOST_STEPS 256   /* steps of a chain of 255 indices, the most there can be */
+#define QPTR_MOST_MEMBERS 1024 /* members of a sheet, and so components that can hold a range */
 
 enum qptr_step_kind { QPTR_HANDLE_ARRAY_INDEX = 1, QPTR_BUFFER_DATA = 2, QPTR_OFFSET = 3, QPTR_DYN_OFFSET = 4 };
 
@@ -58,7 +59,7 @@ int64_t qptr_lower_chain(const uint32_t *table, size_t table_len, uint32_t op, u
                          uint8_t *steps, size_t steps_len);
 
 /* The components of a type that hold the bytes from start to end, rising; how many. */
-int64_t qptr_find_components(const uint32_t *table, size_t table_len, uint32_t type, uint32_t start, uint32_t end, uint32_t *out, size_t out_len);
+int64_t qptr_find_components(const uint32_t *table, size_t table_len, uint32_t ty, uint32_t start, uint32_t end, uint32_t *out, size_t out_len);
 
 /* Where a runtime array that ends a block begins, and its stride: 2 words. */
 int64_t qptr_array_length(const uint32_t *table, size_t table_len, uint32_t ptr, uint32_t member, uint32_t *out, size_t out_len);
