@@ -77,6 +77,17 @@ fn the_longest_chain() {
     assert_eq!(number(table.lower_chain(Op::PtrAccessChain, 255, &vec![Known(0); 256])), 2);
 }
 
+/// The walk goes one call deeper with each index, refused or not.
+#[test]
+fn half_a_megabyte_of_stack_is_enough() {
+    let arrays: String = (0..253).map(|elem| format!("A,{elem},1,4\n")).collect();
+    let chain = |op: u32, last: u32| format!("C,{op},255{},{last}\n", ",0".repeat(254));
+    let sheet = format!("G,1,1,1,1,1,1\nF,32\n{arrays}S,1,1,253\nD,0,35,4\nP,12,254\n{}{}", chain(67, 0), chain(65, 1));
+    let thread = std::thread::Builder::new().stack_size(512 << 10);
+    let answers = thread.spawn(move || qptr::answer_sheet(sheet.as_bytes())).unwrap().join().unwrap();
+    assert_eq!(String::from_utf8(answers).unwrap(), "c,H,0,B,O,4\ne,19\n");
+}
+
 #[test]
 fn chains_are_refused() {
     let table = types("F,32\nU\nO\nS,0,2,0,0\nD,0,35,0\nD,1,35,2147483648\nP,7,3\nP,7,1\nP,7,2\nP,7,0\n");
