@@ -24,7 +24,7 @@ unsafe extern "C" {
 }
 
 const TABLE_WORDS: usize = 7175;
-const REPETITIONS: usize = 15;
+const REPETITIONS: usize = 40;
 
 // ---- ours
 
@@ -80,7 +80,7 @@ fn least<const N: usize>(mut all: [&mut dyn FnMut(); N]) -> [f64; N] {
         loop {
             let start = Instant::now();
             (0..calls).for_each(|_| f());
-            if start.elapsed() >= Duration::from_millis(3) {
+            if start.elapsed() >= Duration::from_millis(2) {
                 return calls;
             }
             calls *= 2;
