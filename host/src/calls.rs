@@ -17,6 +17,7 @@ mod ffi {
             steps: *mut u8,
             steps_len: usize,
         ) -> i64;
+        pub fn qptr_type_layout(table: *const u32, table_len: usize, ty: u32, out: *mut u32, out_len: usize) -> i64;
         pub fn qptr_find_components(
             table: *const u32,
             table_len: usize,
@@ -34,6 +35,7 @@ mod ffi {
             out: *mut u32,
             out_len: usize,
         ) -> i64;
+        pub fn qptr_local_variable(table: *const u32, table_len: usize, ptr: u32, out: *mut u32, out_len: usize) -> i64;
     }
 }
 
@@ -58,6 +60,14 @@ pub fn lower_chain(table: &[u32], op: u32, ptr: u32, indices: &[u8], steps: &mut
     answered(unsafe { ffi::qptr_lower_chain(table.as_ptr(), table.len(), op, ptr, at, len, steps.as_mut_ptr(), steps.len()) })
 }
 
+/// The layout of a type, 7 words and the offsets of its fields; how many words.
+///
+/// The 7: form (1 memory, 2 buffer, 3 opaque, 4 and 5 arrays of these), length of a handle array or 0, size, alignment, legacy alignment, runtime
+/// stride or 0, stride of an array or 0.
+pub fn type_layout(table: &[u32], ty: u32, out: &mut [u32]) -> Result<usize, Refusal> {
+    answered(unsafe { ffi::qptr_type_layout(table.as_ptr(), table.len(), ty, out.as_mut_ptr(), out.len()) })
+}
+
 /// The components of a type that hold the bytes from start to end, rising; how many.
 pub fn find_components(table: &[u32], ty: u32, start: u32, end: u32, out: &mut [u32]) -> Result<usize, Refusal> {
     answered(unsafe { ffi::qptr_find_components(table.as_ptr(), table.len(), ty, start, end, out.as_mut_ptr(), out.len()) })
@@ -66,4 +76,9 @@ pub fn find_components(table: &[u32], ty: u32, start: u32, end: u32, out: &mut [
 /// Where a runtime array that ends a block begins, and its stride: 2 words.
 pub fn array_length(table: &[u32], ptr: u32, member: u32, out: &mut [u32]) -> Result<usize, Refusal> {
     answered(unsafe { ffi::qptr_array_length(table.as_ptr(), table.len(), ptr, member, out.as_mut_ptr(), out.len()) })
+}
+
+/// The size, alignment and legacy alignment of a local variable, 3 words; or none where it isn't memory of a fixed size.
+pub fn local_variable(table: &[u32], ptr: u32, out: &mut [u32]) -> Result<usize, Refusal> {
+    answered(unsafe { ffi::qptr_local_variable(table.as_ptr(), table.len(), ptr, out.as_mut_ptr(), out.len()) })
 }

@@ -4,10 +4,12 @@
 //! lengths that it says, and turns words into structs and enums.
 pub mod calls;
 mod refusal;
+mod shapes;
 mod steps;
 mod table;
 
 pub use refusal::Refusal;
+pub use shapes::{Components, Handle, MaybeDynMemLayout, MemLayout, MemTypeLayout, TypeLayout};
 pub use steps::{Index, Op, Step};
 pub use table::{BufferDynLen, Table};
 

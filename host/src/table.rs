@@ -1,5 +1,6 @@
 //! The table of a sheet, and the questions that it answers.
-use crate::{calls, Index, Op, Refusal, Step, MOST_MEMBERS, MOST_STEPS, STEP_BYTES, TABLE_WORDS};
+use crate::shapes::HEAD;
+use crate::{calls, Index, MemLayout, Op, Refusal, Step, TypeLayout, MOST_MEMBERS, MOST_STEPS, STEP_BYTES, TABLE_WORDS};
 use std::ops::Range;
 
 /// The types of a sheet, read and laid out.
@@ -41,6 +42,13 @@ impl Table {
         Ok(steps[..count].iter().map(Step::of).collect())
     }
 
+    /// The layout of a type.
+    pub fn type_layout(&self, ty: u32) -> Result<TypeLayout, Refusal> {
+        let mut out = [0; HEAD + MOST_MEMBERS];
+        let count = calls::type_layout(&self.words, ty, &mut out)?;
+        Ok(TypeLayout::of(&out[..count]))
+    }
+
     /// The components of a type that hold a range of its bytes, rising.
     pub fn find_components(&self, ty: u32, range: Range<u32>) -> Result<Vec<u32>, Refusal> {
         let mut out = [0; MOST_MEMBERS];
@@ -53,5 +61,12 @@ impl Table {
         let mut out = [0; 2];
         calls::array_length(&self.words, ptr, member, &mut out)?;
         Ok(BufferDynLen { fixed_base_size: out[0], dyn_unit_stride: out[1] })
+    }
+
+    /// The layout of a local variable, by its pointer's type; none where it isn't memory of a fixed size.
+    pub fn local_variable(&self, ptr: u32) -> Result<Option<MemLayout>, Refusal> {
+        let mut out = [0; 3];
+        let count = calls::local_variable(&self.words, ptr, &mut out)?;
+        Ok((count == 3).then(|| MemLayout { size: out[0], align: out[1], legacy_align: out[2] }))
     }
 }

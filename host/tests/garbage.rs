@@ -216,6 +216,28 @@ fn find_components() {
 }
 
 #[test]
+fn type_layout() {
+    over_tables(b'T', "qptr_type_layout", |numbers, asked| {
+        let (table, question) = (asked.table(numbers), asked.question(numbers, b'T', 1));
+        let room = room(numbers, 2 * MOST_MEMBERS, 9);
+        let answer = full(room, WORDS, &|out| calls::type_layout(table.list(), question[0].1, out));
+        table.kept(0);
+        answer.map(|words| words.len())
+    });
+}
+
+#[test]
+fn local_variable() {
+    over_tables(b'X', "qptr_local_variable", |numbers, asked| {
+        let (table, question) = (asked.table(numbers), asked.question(numbers, b'X', 1));
+        let room = room(numbers, 9, 3);
+        let answer = full(room, WORDS, &|out| calls::local_variable(table.list(), question[0].1, out));
+        table.kept(0);
+        answer.map(|words| words.len())
+    });
+}
+
+#[test]
 fn array_length() {
     over_tables(b'L', "qptr_array_length", |numbers, asked| {
         let (table, question) = (asked.table(numbers), asked.question(numbers, b'L', 2));
