@@ -1,5 +1,5 @@
 /* The C functions of libqptr.a. A list is handed over as its address and its length. A negative answer is minus the number of a refusal, and then
-   every lent list is as it was. */
+   every lent list is as it was. A call takes up to half a megabyte of stack, most for long chains. */
 #ifndef QPTR_H
 #define QPTR_H
 #include <stddef.h>
@@ -9,8 +9,11 @@
 #define QPTR_INDEX_BYTES 8    /* an index: its word, then 0 (known) or 1 (unknown); words are little-endian */
 #define QPTR_STEP_BYTES 20    /* a step: kind, bytes or stride, length or 0, 1 where its index is unknown, the index */
 #define QPTR_MOST_STEPS 256   /* steps of a chain of 255 indices, the most there can be */
+#define QPTR_MOST_MEMBERS 1024 /* members of a sheet, and so components that can hold a range */
 
 enum qptr_step_kind { QPTR_HANDLE_ARRAY_INDEX = 1, QPTR_BUFFER_DATA = 2, QPTR_OFFSET = 3, QPTR_DYN_OFFSET = 4 };
+
+enum qptr_form { QPTR_MEMORY = 1, QPTR_BUFFER = 2, QPTR_OPAQUE = 3, QPTR_BUFFER_ARRAY = 4, QPTR_OPAQUE_ARRAY = 5 };
 
 enum qptr_refusal {
     QPTR_MISREAD = 1,
@@ -57,11 +60,18 @@ int64_t qptr_read_sheet(const uint8_t *sheet, size_t sheet_len, uint32_t *table,
 int64_t qptr_lower_chain(const uint32_t *table, size_t table_len, uint32_t op, uint32_t ptr, const uint8_t *indices, size_t indices_len,
                          uint8_t *steps, size_t steps_len);
 
+/* The layout of a type, 7 words and the offsets of its fields: form (enum qptr_form), length of a handle array or 0, size, alignment, legacy
+   alignment, runtime stride or 0, stride of an array or 0; how many words. */
+int64_t qptr_type_layout(const uint32_t *table, size_t table_len, uint32_t ty, uint32_t *out, size_t out_len);
+
 /* The components of a type that hold the bytes from start to end, rising; how many. */
-int64_t qptr_find_components(const uint32_t *table, size_t table_len, uint32_t type, uint32_t start, uint32_t end, uint32_t *out, size_t out_len);
+int64_t qptr_find_components(const uint32_t *table, size_t table_len, uint32_t ty, uint32_t start, uint32_t end, uint32_t *out, size_t out_len);
 
 /* Where a runtime array that ends a block begins, and its stride: 2 words. */
 int64_t qptr_array_length(const uint32_t *table, size_t table_len, uint32_t ptr, uint32_t member, uint32_t *out, size_t out_len);
+
+/* The size, alignment and legacy alignment of a local variable, 3 words; or none, 0, where it isn't memory of a fixed size. */
+int64_t qptr_local_variable(const uint32_t *table, size_t table_len, uint32_t ptr, uint32_t *out, size_t out_len);
 
 #ifdef __cplusplus
 }

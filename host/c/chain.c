@@ -35,13 +35,17 @@ int main(void) {
     for (size_t i = 0; i < 15; i++) same("a word of a step", word(steps + 4 * i), expected[i]);
     same("no pointer", qptr_lower_chain(table, QPTR_TABLE_WORDS, 65, 4, chain, sizeof chain, steps, sizeof steps), -QPTR_NO_POINTER);
 
-    uint32_t found[4];
+    uint32_t found[16];
     same("components", qptr_find_components(table, QPTR_TABLE_WORDS, 2, 12, 16, found, 4), 1);
     same("the component", found[0], 1);
     same("reversed", qptr_find_components(table, QPTR_TABLE_WORDS, 2, 16, 12, found, 4), -QPTR_REVERSED);
     same("array length", qptr_array_length(table, QPTR_TABLE_WORDS, 5, 0, found, 4), 2);
     same("its offset", found[0], 0);
     same("its stride", found[1], 16);
+    const uint32_t layout[] = {QPTR_MEMORY, 0, 16, 4, 16, 0, 0, 0, 12};
+    same("layout", qptr_type_layout(table, QPTR_TABLE_WORDS, 2, found, 16), 9);
+    for (size_t i = 0; i < 9; i++) same("a word of a layout", found[i], layout[i]);
+    same("local variable", qptr_local_variable(table, QPTR_TABLE_WORDS, 5, found, 16), 0);
     if (!differing) printf("as document 01 has it\n");
     return differing;
 }
