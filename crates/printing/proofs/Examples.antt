@@ -12,7 +12,7 @@ use Rattle.shapes.specs.declared.MemTypeLayout.{MemTypeLayout}
 use Rattle.shapes.specs.declared.Handle.the-variants as handle
 use Rattle.shapes.specs.declared.TypeLayout.the-variants as layout
 use Rattle.printing.specs.Layouts.{layoutText}
-use Rattle.printing.specs.Behind.{behind}
+use Rattle.cells.specs.Behind.{behind}
 use Rattle.printing.specs.Texts.{equalText, componentsText, chainText, lengthText, variableText, refusalText}
 use Rattle.printing.proofs.Opened.{opened}
 

@@ -7,8 +7,8 @@ use Rattle.shapes.proofs.Opened as of-shapes
 use Rattle.lower.proofs.Opened as of-lower
 use Rattle.answers.proofs.Opened as of-answers
 use Rattle.steps.proofs.Opened as of-steps
-use Rattle.printing.specs.Behind as behind
+use Rattle.cells.proofs.Opened as of-cells
 
 unfoldable pub opened : Unit {0}
-unfolding of-arith.opened of-text.opened of-decimal.opened of-spirv.opened of-shapes.opened of-lower.opened of-answers.opened of-steps.opened behind.behind
+unfolding of-arith.opened of-text.opened of-decimal.opened of-spirv.opened of-shapes.opened of-lower.opened of-answers.opened of-steps.opened of-cells.opened
 opened = tt

@@ -1,5 +1,4 @@
 // The line of a layout, `t,form,len,size,align,legacy,dyn`, then field offsets, or the stride. A struct's fields are a span of the sheet's list of offsets.
-use crate::fields;
 use shapes::Components;
 use shapes::Handle;
 use shapes::MemTypeLayout;
@@ -10,7 +9,7 @@ ghost use Rattle.decimal.specs.Text.{bytes};
 ghost use Rattle.decimal.specs.Decimal.{decimal};
 ghost use Rattle.answers.specs.Lines.{partsFields, memoryFields, opaqueFields};
 ghost use Rattle.answers.specs.Output.{printed};
-ghost use Rattle.printing.specs.Behind.{behind};
+ghost use Rattle.cells.specs.Behind.{behind};
 ghost use Rattle.printing.specs.Layouts.{partsIn, memoryIn, layoutText};
 
 fn parts(out: &mut [u8], at: usize, p: Components, offsets: &[u32]) -> usize
@@ -18,9 +17,9 @@ fn parts(out: &mut [u8], at: usize, p: Components, offsets: &[u32]) -> usize
 {
     match p {
         Components::Scalar => at,
-        Components::Elements { stride, .. } => fields::number(out, at, stride),
+        Components::Elements { stride, .. } => cells::number(out, at, stride),
         Components::Fields { start, count } => {
-            fields::numbers(out, at, shapes::rows::span(offsets, start, count))
+            cells::numbers(out, at, shapes::rows::span(offsets, start, count))
         }
     }
 }
@@ -31,10 +30,10 @@ fn memory(out: &mut [u8], at: usize, m: MemTypeLayout, offsets: &[u32]) -> usize
     let mem = m.mem;
     let base = mem.fixed_base;
     let components = m.components;
-    let a = fields::number(out, at, base.size);
-    let b = fields::number(out, a, base.align);
-    let c = fields::number(out, b, base.legacy_align);
-    let d = fields::number(out, c, mem.dyn_unit_stride);
+    let a = cells::number(out, at, base.size);
+    let b = cells::number(out, a, base.align);
+    let c = cells::number(out, b, base.legacy_align);
+    let d = cells::number(out, c, mem.dyn_unit_stride);
     parts(out, d, components, offsets)
 }
 
@@ -52,7 +51,7 @@ fn memory_line(
     let a = text::byte(out, at, b't');
     let b = text::byte(out, a, b',');
     let c = text::bytes(out, b, form);
-    let d = fields::number(out, c, len);
+    let d = cells::number(out, c, len);
     let e = memory(out, d, m, offsets);
     text::byte(out, e, b'\n')
 }
@@ -64,7 +63,7 @@ fn opaque_line(out: &mut [u8], at: usize, form: &[u8], len: u32) -> usize
     let a = text::byte(out, at, b't');
     let b = text::byte(out, a, b',');
     let c = text::bytes(out, b, form);
-    let d = fields::number(out, c, len);
+    let d = cells::number(out, c, len);
     let e = text::bytes(out, d, b",0,0,0,0");
     text::byte(out, e, b'\n')
 }

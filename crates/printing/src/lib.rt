@@ -1,6 +1,5 @@
 // Answer lines of the program `lay`, printed into a lent slice at a place, as the crate `text` prints: what lies past the slice's end is left out.
 
-pub mod fields;
 pub mod layouts;
 
 use shapes::MemLayout;
@@ -24,7 +23,7 @@ pub fn components_line(out: &mut [u8], at: usize, found: &[u32]) -> usize
     ensures { λ r. ⌜ Printed (componentsText (now (found .entry))) (now (out .entry)) at r (now (out .exit)) ⌝ }
 {
     let a = text::byte(out, at, b'q');
-    let b = fields::numbers(out, a, found);
+    let b = cells::numbers(out, a, found);
     text::byte(out, b, b'\n')
 }
 
@@ -42,7 +41,7 @@ pub fn chain_line(
     ensures { λ r. ⌜ Printed (chainText (stepsIn (now (kinds .entry)) (now (bytes .entry)) (now (bounds .entry)) (now (marks .entry)) (now (indices .entry)) count)) (now (out .entry)) at r (now (out .exit)) ⌝ }
 {
     let a = text::byte(out, at, b'c');
-    let b = fields::first_steps(out, a, kinds, bytes, bounds, marks, indices, count);
+    let b = cells::first_steps(out, a, kinds, bytes, bounds, marks, indices, count);
     text::byte(out, b, b'\n')
 }
 
@@ -51,8 +50,8 @@ pub fn length_line(out: &mut [u8], at: usize, offset: u32, stride: u32) -> usize
     ensures { λ r. ⌜ Printed (lengthText offset stride) (now (out .entry)) at r (now (out .exit)) ⌝ }
 {
     let a = text::byte(out, at, b'l');
-    let b = fields::number(out, a, offset);
-    let c = fields::number(out, b, stride);
+    let b = cells::number(out, a, offset);
+    let c = cells::number(out, b, stride);
     text::byte(out, c, b'\n')
 }
 
@@ -61,9 +60,9 @@ pub fn variable_line(out: &mut [u8], at: usize, m: MemLayout) -> usize
     ensures { λ r. ⌜ Printed (variableText (some m)) (now (out .entry)) at r (now (out .exit)) ⌝ }
 {
     let a = text::byte(out, at, b'x');
-    let b = fields::number(out, a, m.size);
-    let c = fields::number(out, b, m.align);
-    let d = fields::number(out, c, m.legacy_align);
+    let b = cells::number(out, a, m.size);
+    let c = cells::number(out, b, m.align);
+    let d = cells::number(out, c, m.legacy_align);
     text::byte(out, d, b'\n')
 }
 
@@ -79,6 +78,6 @@ pub fn refusal_line(out: &mut [u8], at: usize, n: u32) -> usize
     ensures { λ r. ⌜ Printed (refusalText n) (now (out .entry)) at r (now (out .exit)) ⌝ }
 {
     let a = text::byte(out, at, b'e');
-    let b = fields::number(out, a, n);
+    let b = cells::number(out, a, n);
     text::byte(out, b, b'\n')
 }

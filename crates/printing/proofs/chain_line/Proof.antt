@@ -1,5 +1,5 @@
 -- `printing::chain_line` meets its contract: the letter, the steps, LF. Assumes nothing.
-use Rattle.printing.proofs.Laws.{line}
+use Rattle.cells.proofs.Laws.{line}
 use Rattle.printing.proofs.chain_line.Statement.{statement}
 use Rattle.printing.proofs.chain_line.Tie as tie
 use borrow.Author.Needs.{needs}

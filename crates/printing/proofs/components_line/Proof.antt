@@ -1,5 +1,5 @@
 -- `printing::components_line` meets its contract: the letter, the numbers, LF. Assumes nothing.
-use Rattle.printing.proofs.Laws.{line}
+use Rattle.cells.proofs.Laws.{line}
 use Rattle.printing.proofs.components_line.Statement.{statement}
 use Rattle.printing.proofs.components_line.Tie as tie
 use borrow.Author.Needs.{needs}

@@ -1,5 +1,5 @@
 -- `printing::length_line` meets its contract: the letter, two numbers, LF. Assumes nothing.
-use Rattle.printing.proofs.Laws.{fields, line}
+use Rattle.cells.proofs.Laws.{fields, line}
 use Rattle.printing.proofs.length_line.Statement.{statement}
 use Rattle.printing.proofs.length_line.Tie as tie
 use borrow.Author.Needs.{needs}

@@ -1,5 +1,5 @@
 -- `printing::refusal_line` meets its contract: the letter, the number, LF. Assumes nothing.
-use Rattle.printing.proofs.Laws.{line}
+use Rattle.cells.proofs.Laws.{line}
 use Rattle.printing.proofs.refusal_line.Statement.{statement}
 use Rattle.printing.proofs.refusal_line.Tie as tie
 use borrow.Author.Needs.{needs}

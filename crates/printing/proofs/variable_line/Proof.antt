@@ -1,5 +1,5 @@
 -- `printing::variable_line` meets its contract: the letter, three numbers, LF. Assumes nothing.
-use Rattle.printing.proofs.Laws.{fields, line}
+use Rattle.cells.proofs.Laws.{fields, line}
 use Rattle.printing.proofs.variable_line.Statement.{statement}
 use Rattle.printing.proofs.variable_line.Tie as tie
 use borrow.Author.Needs.{needs}

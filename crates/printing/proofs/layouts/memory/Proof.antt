@@ -1,5 +1,5 @@
 -- `printing::layouts::memory` meets its contract: one field behind the other. Assumes nothing.
-use Rattle.printing.proofs.Laws.{fields}
+use Rattle.cells.proofs.Laws.{fields}
 use Rattle.printing.proofs.layouts.memory.Statement.{statement}
 use Rattle.printing.proofs.layouts.memory.Tie as tie
 use borrow.Author.Needs.{needs}

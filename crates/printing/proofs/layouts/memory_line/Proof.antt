@@ -1,5 +1,5 @@
 -- `printing::layouts::memory_line` meets its contract: the letter, the fields, LF. Assumes nothing.
-use Rattle.printing.proofs.Laws.{begun, fields, line}
+use Rattle.cells.proofs.Laws.{begun, fields, line}
 use Rattle.printing.proofs.layouts.memory_line.Statement.{statement}
 use Rattle.printing.proofs.layouts.memory_line.Tie as tie
 use borrow.Author.Needs.{needs}

@@ -1,5 +1,5 @@
 -- `printing::layouts::opaque_line` meets its contract: the letter, the fields, LF. Assumes nothing.
-use Rattle.printing.proofs.Laws.{begun, fields, line, zeros}
+use Rattle.cells.proofs.Laws.{begun, fields, line, zeros}
 use Rattle.printing.proofs.layouts.opaque_line.Statement.{statement}
 use Rattle.printing.proofs.layouts.opaque_line.Tie as tie
 use borrow.Author.Needs.{needs}

@@ -1,5 +1,5 @@
 -- `printing::layouts::parts` meets its contract: the variant picks the fields. Assumes nothing.
-use Rattle.printing.proofs.Laws.{no-fields}
+use Rattle.cells.proofs.Laws.{no-fields}
 use Rattle.printing.proofs.layouts.parts.Statement.{statement}
 use Rattle.printing.proofs.layouts.parts.Tie as tie
 use Rattle.text.proofs.Laws.{none}

@@ -14,7 +14,7 @@ use Rattle.answers.specs.Lines.{AnswerLine, opaqueFields, stepFields, stepsFiel
 use Rattle.answers.specs.Output.{printed}
 use Rattle.lower.specs.declared.QPtrOp.{QPtrOp}
 use Rattle.steps.specs.Lists.{stepAt, stepsIn}
-use Rattle.printing.specs.Behind.{behind, LineIs}
+use Rattle.cells.specs.Behind.{behind, LineIs}
 
 pub line-is : LineIs
 unfolding behind printed

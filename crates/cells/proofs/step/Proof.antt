@@ -1,7 +1,7 @@
--- `printing::fields::step` meets its contract: the variant picks the fields. Assumes nothing.
-use Rattle.printing.proofs.Laws.{field, fields}
-use Rattle.printing.proofs.fields.step.Statement.{statement}
-use Rattle.printing.proofs.fields.step.Tie as tie
+-- `cells::step` meets its contract: the variant picks the fields. Assumes nothing.
+use Rattle.cells.proofs.Laws.{field, fields}
+use Rattle.cells.proofs.step.Statement.{statement}
+use Rattle.cells.proofs.step.Tie as tie
 use borrow.Author.Needs.{needs}
 use mir.Syntax.{w32}
 use mir.ValLaws.{toZ-ofZ}

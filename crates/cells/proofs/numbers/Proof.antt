@@ -1,10 +1,10 @@
--- `printing::fields::numbers` meets its contract. The loop's invariant: the first i numbers are printed. Assumes nothing.
+-- `cells::numbers` meets its contract. The loop's invariant: the first i numbers are printed. Assumes nothing.
 use Prim.Native.Nat.{_≤_, _-_}
 use Rattle.decimal.specs.Decimal.{decimal}
-use Rattle.printing.proofs.Laws.{no-fields, one-more}
-use Rattle.printing.proofs.fields.numbers.Statement.{statement}
-use Rattle.printing.proofs.fields.numbers.Tie as tie
-use Rattle.printing.specs.Behind.{behind}
+use Rattle.cells.proofs.Laws.{no-fields, one-more}
+use Rattle.cells.proofs.numbers.Statement.{statement}
+use Rattle.cells.proofs.numbers.Tie as tie
+use Rattle.cells.specs.Behind.{behind}
 use Rattle.text.proofs.Laws.{none, kept}
 use Rattle.text.specs.Printed.{Printed}
 use borrow.Author.Needs.{needs}

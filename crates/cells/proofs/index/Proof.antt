@@ -1,7 +1,7 @@
--- `printing::fields::index` meets its contract: the variant picks the text. Assumes nothing.
-use Rattle.printing.proofs.Laws.{begun}
-use Rattle.printing.proofs.fields.index.Statement.{statement}
-use Rattle.printing.proofs.fields.index.Tie as tie
+-- `cells::index` meets its contract: the variant picks the text. Assumes nothing.
+use Rattle.cells.proofs.Laws.{begun}
+use Rattle.cells.proofs.index.Statement.{statement}
+use Rattle.cells.proofs.index.Tie as tie
 use borrow.Author.Needs.{needs}
 
 enum-known-i : tie.Need-enum-known-i

@@ -1,8 +1,8 @@
--- `printing::fields::signed` meets its contract: the comma, then the number. Assumes nothing.
+-- `cells::signed` meets its contract: the comma, then the number. Assumes nothing.
 use Rattle.arith.proofs.Whole.{cast-back}
-use Rattle.printing.proofs.Laws.{begun}
-use Rattle.printing.proofs.fields.signed.Statement.{statement}
-use Rattle.printing.proofs.fields.signed.Tie as tie
+use Rattle.cells.proofs.Laws.{begun}
+use Rattle.cells.proofs.signed.Statement.{statement}
+use Rattle.cells.proofs.signed.Tie as tie
 use borrow.Author.Needs.{needs}
 
 byte-requires : tie.Need-byte-requires

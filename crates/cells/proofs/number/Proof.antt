@@ -1,7 +1,7 @@
--- `printing::fields::number` meets its contract: the comma, then the digits. Assumes nothing.
-use Rattle.printing.proofs.Laws.{begun}
-use Rattle.printing.proofs.fields.number.Statement.{statement}
-use Rattle.printing.proofs.fields.number.Tie as tie
+-- `cells::number` meets its contract: the comma, then the digits. Assumes nothing.
+use Rattle.cells.proofs.Laws.{begun}
+use Rattle.cells.proofs.number.Statement.{statement}
+use Rattle.cells.proofs.number.Tie as tie
 use borrow.Author.Needs.{needs}
 
 byte-requires : tie.Need-byte-requires

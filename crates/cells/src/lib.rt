@@ -6,7 +6,7 @@ ghost use Rattle.text.specs.Printed.{Printed};
 ghost use Rattle.decimal.specs.Decimal.{decimal, signedDecimal};
 ghost use Rattle.answers.specs.Lines.{indexField, stepFields, stepsFields};
 ghost use Rattle.steps.specs.Lists.{stepsIn};
-ghost use Rattle.printing.specs.Behind.{behind};
+ghost use Rattle.cells.specs.Behind.{behind};
 
 pub fn number(out: &mut [u8], at: usize, n: u32) -> usize
     ensures { λ r. ⌜ Printed (behind (decimal n ∷ [])) (now (out .entry)) at r (now (out .exit)) ⌝ }

@@ -1,10 +1,10 @@
--- `printing::fields::first_steps` meets its contract. The loop's invariant: the first j steps are printed. Assumes nothing.
+-- `cells::first_steps` meets its contract. The loop's invariant: the first j steps are printed. Assumes nothing.
 use Prim.Native.Nat.{_≤_, _-_}
 use Rattle.answers.specs.Lines.{stepsFields}
-use Rattle.printing.proofs.Laws.{no-steps, one-step-more}
-use Rattle.printing.proofs.fields.first_steps.Statement.{statement}
-use Rattle.printing.proofs.fields.first_steps.Tie as tie
-use Rattle.printing.specs.Behind.{behind}
+use Rattle.cells.proofs.Laws.{no-steps, one-step-more}
+use Rattle.cells.proofs.first_steps.Statement.{statement}
+use Rattle.cells.proofs.first_steps.Tie as tie
+use Rattle.cells.specs.Behind.{behind}
 use Rattle.steps.specs.Lists.{stepsIn}
 use Rattle.text.proofs.Laws.{none, kept}
 use Rattle.text.specs.Printed.{Printed}

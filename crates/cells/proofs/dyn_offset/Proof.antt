@@ -1,7 +1,7 @@
--- `printing::fields::dyn_offset` meets its contract: one field behind the other. Assumes nothing.
-use Rattle.printing.proofs.Laws.{field, fields}
-use Rattle.printing.proofs.fields.dyn_offset.Statement.{statement}
-use Rattle.printing.proofs.fields.dyn_offset.Tie as tie
+-- `cells::dyn_offset` meets its contract: one field behind the other. Assumes nothing.
+use Rattle.cells.proofs.Laws.{field, fields}
+use Rattle.cells.proofs.dyn_offset.Statement.{statement}
+use Rattle.cells.proofs.dyn_offset.Tie as tie
 use borrow.Author.Needs.{needs}
 
 slice-aggregate-bytes : tie.Need-slice-aggregate-bytes
