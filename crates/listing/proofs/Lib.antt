@@ -1,4 +1,3 @@
 pub mod Laws
 pub mod Reached
 pub mod Streams
-pub mod Through

@@ -15,7 +15,7 @@ pub fn answer_sheet(sheet: &[u8], out: &mut [u8]) -> Answer
     let mut layouts = [0u32; 2560];
     match prepared::prepare(sheet, &mut types, &mut members, &mut offsets, &mut layouts) {
         Ready::Tables { cfg, n } => {
-            listing::put_all(sheet, 0, cfg, n, &types, &layouts, &offsets, &members, out)
+            gathering::put_all(sheet, 0, cfg, n, &types, &layouts, &offsets, &members, out)
         }
         Ready::Refused(e) => fitting::put_refusal_line(out, e),
     }

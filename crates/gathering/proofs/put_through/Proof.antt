@@ -1,11 +1,11 @@
--- `listing::put_through` meets its contract: the lines are measured as they are printed, and copied where they fit. Assumes nothing.
+-- `gathering::put_through` meets its contract: the lines are measured as they are printed, and copied where they fit. Assumes nothing.
 use native.Mathlib.Omega.{arith}
 use mathlib.Core.Path.{sym}
 use lib.Seq.{length-take-le}
-use Rattle.listing.proofs.Through.{no-room, printed-again, copied}
+use Rattle.gathering.proofs.Through.{no-room, printed-again, copied}
 use borrow.Author.Needs.{needs}
-use Rattle.listing.proofs.put_through.Statement.{statement}
-use Rattle.listing.proofs.put_through.Tie as tie
+use Rattle.gathering.proofs.put_through.Statement.{statement}
+use Rattle.gathering.proofs.put_through.Tie as tie
 
 put-answers-requires : tie.Need-put-answers-requires
 put-answers-requires c κs = search needs
