@@ -39,7 +39,7 @@ use Rattle.tabled.specs.declared.Asked.{Asked}
 use Rattle.tabled.specs.declared.Asked.the-variants as asked
 use Rattle.tabled.specs.declared.OpReading.{OpReading}
 use Rattle.tabled.specs.declared.OpReading.the-variants.{Op, Unknown}
-use Rattle.tabled.specs.Chains.{opOf, opIn, askedIn, askedOf, places, chainAt, chainOf, chainIn, roomIn, Lowered, heldBy}
+use Rattle.tabled.specs.Chains.{opOf, opIn, askedIn, askedOf, places, chainAt, chainOf, walkIn, chainIn, roomIn, Lowered, heldBy}
 
 -- ---- counts
 
@@ -142,15 +142,6 @@ module _ (room : ℕ) (cfg : LayoutConfig) (n : ℕ) (types layouts offsets memb
           ap (λ (v : Walk). heldBy v ks′ bs′ ls′ ms′ is′) h
           ∙ ap (λ (k : ℕ). ok (stepsIn ks′ bs′ ls′ ms′ is′ k)) z
           ∙ ap ok (read-again steps ks bs ls ms is ks′ bs′ ls′ ms′ is′ (g .fit) (omega (arith, g .few)) stored)
-
--- of the words that bytes spell
-pub lowered-is : (room : ℕ) (cfg : LayoutConfig) (n : ℕ) (types layouts offsets members : List ℕ) (op : ChainOp) (ptr : ℕ) (bytes : List ℕ) {chain : List ℕ} {v r : Walk} {old new : List ℕ}
-    {ks bs ls ms is ks′ bs′ ls′ ms′ is′ : List ℕ} → chain ≡ wordsOf bytes → Wrote 0 (chainOver room cfg n types layouts offsets members op ptr chain) v ks bs ls ms is ks′ bs′ ls′ ms′ is′
-    → room ≤ roomOf ks bs ls ms is → Lowered (inRoom (roomIn old) length (heldBy v ks′ bs′ ls′ ms′ is′)) r old new
-    → Lowered (inRoom (roomIn old) length (chainOver room cfg n types layouts offsets members op ptr (wordsOf bytes))) r old new
-lowered-is room cfg n types layouts offsets members op ptr bytes {chain} {v} {r} {old} {new} e x wide y =
-    subst (λ (o : Result (List QPtrOp)). Lowered (inRoom (roomIn old) length o) r old new)
-    (held-is room cfg n types layouts offsets members op ptr chain x wide ∙ ap (chainOver room cfg n types layouts offsets members op ptr) e) y
 
 -- ---- over a table
 
@@ -295,6 +286,63 @@ is-chain {r} {a} {o} h g = by r (sym h ∙ g)
     by : (x : Result ChainOp) → askedOf x ≡ asked.Chain o → x ≡ ok o
     by (ok p) i = ap ok cc
     by (refused n) i = absurd (let z : _≡_ {A = ℕ} 0 1 = cc in omega arith)
+
+-- ---- in the code's own lists
+
+module _ (table : List ℕ) (op ptr : ℕ) (s : List ℕ) where
+  pub walk-refused : (room e : ℕ) → askedIn table op ptr s ≡ refused e → walkIn room table op ptr s ≡ refused e
+  unfolding walkIn _>>=_
+  walk-refused room e h = rw h
+
+  pub walk-chain : (room : ℕ) (o : ChainOp) → askedIn table op ptr s ≡ ok o → walkIn room table op ptr s ≡ chainOf room table o ptr (wordsOf s)
+  unfolding walkIn _>>=_
+  walk-chain room o h = rw h
+
+  refused-in : (room e : ℕ) → inRoom {A = List QPtrOp} room length (refused e) ≡ refused e
+  unfolding inRoom _>>=_
+  refused-in room e = refl
+
+  -- what the caller gets of it
+  pub in-lists : (room p : ℕ) → (length s ≤ 128 → p ≡ 17) → (128 < length s → p ≡ 256) → chainIn room table op ptr s ≡ inRoom room length (walkIn p table op ptr s)
+  in-lists room p few many = by (askedIn table op ptr s) refl
+    where
+      by : (a : Result ChainOp) → askedIn table op ptr s ≡ a → chainIn room table op ptr s ≡ inRoom room length (walkIn p table op ptr s)
+      by (refused e) h = was-refused table op ptr s room e h ∙ sym (refused-in room e) ∙ ap (inRoom room length) (sym (walk-refused p e h))
+      by (ok o) h = steps-by table op ptr s room o h p (size (ltb 128 (length s)) refl) ∙ ap (inRoom room length) (sym (walk-chain p o h))
+        where
+          size : (b : Bool) → ltb 128 (length s) ≡ b → places (length s / 8) ≡ p
+          size true e = let g = ltb-true 128 (length s) e in long table op ptr s h g ∙ sym (many g)
+          size false e = let g = ltb-false 128 (length s) e in short s g ∙ sym (few g)
+
+  pub held-in : (room : ℕ) {w : Walk} {ks bs ls ms is ks′ bs′ ls′ ms′ is′ : List ℕ} → Wrote 0 (walkIn room table op ptr s) w ks bs ls ms is ks′ bs′ ls′ ms′ is′
+      → room ≤ roomOf ks bs ls ms is → heldBy w ks′ bs′ ls′ ms′ is′ ≡ walkIn room table op ptr s
+  held-in room {w} {ks} {bs} {ls} {ms} {is} {ks′} {bs′} {ls′} {ms′} {is′} x wide = by (askedIn table op ptr s) refl
+    where
+      by : (a : Result ChainOp) → askedIn table op ptr s ≡ a → heldBy w ks′ bs′ ls′ ms′ is′ ≡ walkIn room table op ptr s
+      by (refused e) h =
+          let q = walk-refused room e h in
+          ap (λ (v : Walk). heldBy v ks′ bs′ ls′ ms′ is′) (x .says ∙ ap (walkOf 0) q) ∙ sym q
+      by (ok o) h =
+          let q = walk-chain room o h in
+          held-is room (settingIn table) (countIn table) (typesIn table) (layoutsIn table) (placesIn table) (membersIn table) o ptr (wordsOf s)
+          (subst (λ (r : Result (List QPtrOp)). Wrote 0 r w ks bs ls ms is ks′ bs′ ls′ ms′ is′) q x) wide ∙ sym q
+
+  pub lowered-is : (room : ℕ) {v r : Walk} {old new : List ℕ} {ks bs ls ms is ks′ bs′ ls′ ms′ is′ : List ℕ} → Wrote 0 (walkIn room table op ptr s) v ks bs ls ms is ks′ bs′ ls′ ms′ is′
+      → room ≤ roomOf ks bs ls ms is → Lowered (inRoom (roomIn old) length (heldBy v ks′ bs′ ls′ ms′ is′)) r old new
+      → Lowered (inRoom (roomIn old) length (walkIn room table op ptr s)) r old new
+  lowered-is room {v} {r} {old} {new} x wide y = subst (λ (o : Result (List QPtrOp)). Lowered (inRoom (roomIn old) length o) r old new) (held-in room x wide) y
+
+  -- what a walk wrote is what was asked
+  pub wrote-refused : (room e : ℕ) {a : Asked} → a ≡ askedOf (askedIn table op ptr s) → a ≡ asked.Refused e → (ks bs ls ms is : List ℕ) → Wrote 0 (walkIn room table op ptr s) (Refused e) ks bs ls ms is ks bs ls ms is
+  wrote-refused room e h g ks bs ls ms is =
+      let q = walk-refused room e (is-refused h g) in
+      record { says = rw q; stored = rw q record { kinds = refl; bytes = refl; bounds = refl; marks = refl; indices = refl } }
+
+  pub wrote-chain : (room : ℕ) {a : Asked} {o : ChainOp} → a ≡ askedOf (askedIn table op ptr s) → a ≡ asked.Chain o → {words : List ℕ} → words ≡ wordsOf s → {r : Walk} {ks bs ls ms is ks′ bs′ ls′ ms′ is′ : List ℕ}
+      → Wrote 0 (chainOf room table o ptr words) r ks bs ls ms is ks′ bs′ ls′ ms′ is′ → Wrote 0 (walkIn room table op ptr s) r ks bs ls ms is ks′ bs′ ls′ ms′ is′
+  wrote-chain room {a} {o} h g e {r} {ks} {bs} {ls} {ms} {is} {ks′} {bs′} {ls′} {ms′} {is′} x =
+      subst (λ (q : Result (List QPtrOp)). Wrote 0 q r ks bs ls ms is ks′ bs′ ls′ ms′ is′)
+      (ap (λ (v : List ℕ). chainOf room table o ptr v) e ∙ sym (walk-chain room o (is-chain h g))) x
 
 pub by-result : {a b : Result (List QPtrOp)} {r : Walk} {old new : List ℕ} → a ≡ b → Lowered b r old new → Lowered a r old new
 by-result {a} {b} {r} {old} {new} e x = subst (λ (o : Result (List QPtrOp)). Lowered o r old new) (sym e) x

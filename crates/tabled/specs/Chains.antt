@@ -15,6 +15,7 @@ use Rattle.components.specs.Found.{answersIn}
 use Rattle.lower.specs.declared.QPtrOp.{QPtrOp}
 use Rattle.lower.specs.Chain.{chainBy}
 use Rattle.steps.specs.Lists.{stepsIn}
+use Rattle.words.specs.Little.{wordsOf}
 use Rattle.moves.specs.declared.Walk.{Walk}
 use Rattle.moves.specs.declared.Walk.the-variants.{Steps, Refused}
 use Rattle.moves.specs.Written.{walkOf, stepsOf}
@@ -77,6 +78,12 @@ chainIn room table op ptr bytes = do
 -- by the words of the indices
 abbrev pub chainOf : (room : ℕ) → (table : List ℕ) → ChainOp → (ptr : ℕ) → (words : List ℕ) → Result (List QPtrOp)
 chainOf room table o ptr words = chainOver room (settingIn table) (countIn table) (typesIn table) (layoutsIn table) (placesIn table) (membersIn table) o ptr words
+
+-- what is asked, in the room of the code's own lists
+unfoldable pub walkIn : (room : ℕ) → (table : List ℕ) → (op ptr : ℕ) → (bytes : List ℕ) → Result (List QPtrOp)
+walkIn room table op ptr bytes = do
+  o ← askedIn table op ptr bytes
+  chainOf room table o ptr (wordsOf bytes)
 
 -- ---- as bytes
 

@@ -7,10 +7,9 @@ ghost use mathlib.Core.Path.{_≡_};
 ghost use Prim.Native.Nat.{_/_, _≤_};
 ghost use lib.ListN.{length};
 ghost use Rattle.arith.specs.Refusals.{inRoom};
-ghost use Rattle.words.specs.Little.{wordsOf};
 ghost use Rattle.moves.specs.Written.{Wrote};
 ghost use Rattle.chain.specs.Chains.{roomOf};
-ghost use Rattle.tabled.specs.Chains.{opOf, askedIn, askedOf, chainOf, chainIn, roomIn, Lowered, heldBy};
+ghost use Rattle.tabled.specs.Chains.{opOf, askedIn, askedOf, chainOf, walkIn, chainIn, roomIn, Lowered, heldBy};
 
 // The op that a number is, if it is one.
 pub enum OpReading {
@@ -34,30 +33,6 @@ fn op_of(op: u32) -> OpReading
         return OpReading::Op(ChainOp::InBoundsPtrAccessChain);
     }
     OpReading::Unknown
-}
-
-// The steps that a walk left in five lists, as bytes; 24 where these don't fit.
-fn put(
-    w: Walk,
-    kinds: &[u32],
-    bytes: &[u32],
-    bounds: &[u32],
-    marks: &[u32],
-    indices: &[u32],
-    out: &mut [u8],
-) -> Walk
-    ensures { λ r. ⌜ Lowered (inRoom (roomIn (now (out .entry))) length (heldBy w (now (kinds .entry)) (now (bytes .entry)) (now (bounds .entry)) (now (marks .entry)) (now (indices .entry)))) r (now (out .entry)) (now (out .exit)) ⌝ }
-{
-    match w {
-        Walk::Refused(e) => Walk::Refused(e),
-        Walk::Steps(n) => {
-            if out.len() / 20 < n {
-                return Walk::Refused(24);
-            }
-            wire::put_steps(out, 0, kinds, bytes, bounds, marks, indices, n);
-            Walk::Steps(n)
-        }
-    }
 }
 
 // What is asked: a chain of an op, from a type that the table has, by at most 255 indices; or why not.
@@ -124,24 +99,98 @@ pub fn walk(
     )
 }
 
-// At most 16 indices: little is cleared for them.
-fn lower_few(table: &[u32], op: ChainOp, ptr: u32, chain: &[u8], out: &mut [u8]) -> Walk
+// The steps of what is asked into five lists, by at most 16 indices: few words are cleared for them.
+pub fn walk_few(
+    table: &[u32],
+    op: u32,
+    ptr: u32,
+    chain: &[u8],
+    kinds: &mut [u32],
+    bytes: &mut [u32],
+    bounds: &mut [u32],
+    marks: &mut [u32],
+    indices: &mut [u32],
+) -> Walk
     requires { ⌜ length (now chain) ≤ 128 ⌝ }
-    ensures { λ r. ⌜ Lowered (inRoom (roomIn (now (out .entry))) length (chainOf 17 (now (table .entry)) op ptr (wordsOf (now (chain .entry))))) r (now (out .entry)) (now (out .exit)) ⌝ }
+    ensures { λ r. ⌜ Wrote 0 (walkIn (roomOf (now (kinds .entry)) (now (bytes .entry)) (now (bounds .entry)) (now (marks .entry)) (now (indices .entry))) (now (table .entry)) op ptr (now (chain .entry))) r (now (kinds .entry)) (now (bytes .entry)) (now (bounds .entry)) (now (marks .entry)) (now (indices .entry)) (now (kinds .exit)) (now (bytes .exit)) (now (bounds .exit)) (now (marks .exit)) (now (indices .exit)) ⌝ }
 {
-    let mut list = [0u32; 32];
-    words::read_words(chain, &mut list);
-    let words = rows::span(&list, 0, (chain.len() / 4) as u32);
+    match ask(table, op, ptr, chain) {
+        Asked::Refused(e) => Walk::Refused(e),
+        Asked::Chain(o) => {
+            let mut list = [0u32; 32];
+            words::read_words(chain, &mut list);
+            let words = rows::span(&list, 0, (chain.len() / 4) as u32);
+            walk(table, o, ptr, words, kinds, bytes, bounds, marks, indices)
+        }
+    }
+}
+
+// The steps of what is asked into five lists, by at most 255 indices.
+pub fn walk_many(
+    table: &[u32],
+    op: u32,
+    ptr: u32,
+    chain: &[u8],
+    kinds: &mut [u32],
+    bytes: &mut [u32],
+    bounds: &mut [u32],
+    marks: &mut [u32],
+    indices: &mut [u32],
+) -> Walk
+    ensures { λ r. ⌜ Wrote 0 (walkIn (roomOf (now (kinds .entry)) (now (bytes .entry)) (now (bounds .entry)) (now (marks .entry)) (now (indices .entry))) (now (table .entry)) op ptr (now (chain .entry))) r (now (kinds .entry)) (now (bytes .entry)) (now (bounds .entry)) (now (marks .entry)) (now (indices .entry)) (now (kinds .exit)) (now (bytes .exit)) (now (bounds .exit)) (now (marks .exit)) (now (indices .exit)) ⌝ }
+{
+    match ask(table, op, ptr, chain) {
+        Asked::Refused(e) => Walk::Refused(e),
+        Asked::Chain(o) => {
+            let mut list = [0u32; 510];
+            words::read_words(chain, &mut list);
+            let words = rows::span(&list, 0, (chain.len() / 4) as u32);
+            walk(table, o, ptr, words, kinds, bytes, bounds, marks, indices)
+        }
+    }
+}
+
+// ---- as bytes
+
+// The steps that a walk left in five lists, as bytes; 24 where these don't fit.
+fn put(
+    w: Walk,
+    kinds: &[u32],
+    bytes: &[u32],
+    bounds: &[u32],
+    marks: &[u32],
+    indices: &[u32],
+    out: &mut [u8],
+) -> Walk
+    ensures { λ r. ⌜ Lowered (inRoom (roomIn (now (out .entry))) length (heldBy w (now (kinds .entry)) (now (bytes .entry)) (now (bounds .entry)) (now (marks .entry)) (now (indices .entry)))) r (now (out .entry)) (now (out .exit)) ⌝ }
+{
+    match w {
+        Walk::Refused(e) => Walk::Refused(e),
+        Walk::Steps(n) => {
+            if out.len() / 20 < n {
+                return Walk::Refused(24);
+            }
+            wire::put_steps(out, 0, kinds, bytes, bounds, marks, indices, n);
+            Walk::Steps(n)
+        }
+    }
+}
+
+// At most 16 indices: little is cleared for them.
+fn lower_few(table: &[u32], op: u32, ptr: u32, chain: &[u8], out: &mut [u8]) -> Walk
+    requires { ⌜ length (now chain) ≤ 128 ⌝ }
+    ensures { λ r. ⌜ Lowered (inRoom (roomIn (now (out .entry))) length (walkIn 17 (now (table .entry)) op ptr (now (chain .entry)))) r (now (out .entry)) (now (out .exit)) ⌝ }
+{
     let mut kinds = [0u32; 17];
     let mut bytes = [0u32; 17];
     let mut bounds = [0u32; 17];
     let mut marks = [0u32; 17];
     let mut indices = [0u32; 17];
-    let w = walk(
+    let w = walk_few(
         table,
         op,
         ptr,
-        words,
+        chain,
         &mut kinds,
         &mut bytes,
         &mut bounds,
@@ -152,23 +201,19 @@ fn lower_few(table: &[u32], op: ChainOp, ptr: u32, chain: &[u8], out: &mut [u8])
 }
 
 // At most 255 indices.
-fn lower_many(table: &[u32], op: ChainOp, ptr: u32, chain: &[u8], out: &mut [u8]) -> Walk
-    requires { ⌜ length (now chain) ≤ 2040 ⌝ }
-    ensures { λ r. ⌜ Lowered (inRoom (roomIn (now (out .entry))) length (chainOf 256 (now (table .entry)) op ptr (wordsOf (now (chain .entry))))) r (now (out .entry)) (now (out .exit)) ⌝ }
+fn lower_many(table: &[u32], op: u32, ptr: u32, chain: &[u8], out: &mut [u8]) -> Walk
+    ensures { λ r. ⌜ Lowered (inRoom (roomIn (now (out .entry))) length (walkIn 256 (now (table .entry)) op ptr (now (chain .entry)))) r (now (out .entry)) (now (out .exit)) ⌝ }
 {
-    let mut list = [0u32; 510];
-    words::read_words(chain, &mut list);
-    let words = rows::span(&list, 0, (chain.len() / 4) as u32);
     let mut kinds = [0u32; 256];
     let mut bytes = [0u32; 256];
     let mut bounds = [0u32; 256];
     let mut marks = [0u32; 256];
     let mut indices = [0u32; 256];
-    let w = walk(
+    let w = walk_many(
         table,
         op,
         ptr,
-        words,
+        chain,
         &mut kinds,
         &mut bytes,
         &mut bounds,
@@ -182,13 +227,8 @@ fn lower_many(table: &[u32], op: ChainOp, ptr: u32, chain: &[u8], out: &mut [u8]
 pub fn lower_chain(table: &[u32], op: u32, ptr: u32, chain: &[u8], out: &mut [u8]) -> Walk
     ensures { λ r. ⌜ Lowered (chainIn (roomIn (now (out .entry))) (now (table .entry)) op ptr (now (chain .entry))) r (now (out .entry)) (now (out .exit)) ⌝ }
 {
-    match ask(table, op, ptr, chain) {
-        Asked::Refused(e) => Walk::Refused(e),
-        Asked::Chain(o) => {
-            if chain.len() <= 128 {
-                return lower_few(table, o, ptr, chain, out);
-            }
-            lower_many(table, o, ptr, chain, out)
-        }
+    if chain.len() <= 128 {
+        return lower_few(table, op, ptr, chain, out);
     }
+    lower_many(table, op, ptr, chain, out)
 }
