@@ -74,7 +74,7 @@ steps-size [] = refl
 steps-size (s ∷ ss) = let e = steps-size ss in omega (arith, length-append (stepBytes s) (stepsBytes ss), step-size s)
 
 module _ (ks bs ls ms is : List ℕ) where
-  steps-count : (n : ℕ) → length (stepsIn ks bs ls ms is n) ≡ n
+  pub steps-count : (n : ℕ) → length (stepsIn ks bs ls ms is n) ≡ n
   unfolding stepsIn
   steps-count zero = refl
   steps-count (suc n) = let e = steps-count n in omega (arith, length-append (stepsIn ks bs ls ms is n) (stepAt ks bs ls ms is n ∷ []))
