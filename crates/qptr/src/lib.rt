@@ -1,4 +1,6 @@
 // The C functions: numbers and lent bytes for a host that links libqptr.a. A negative answer is minus the number of a refusal.
+pub mod step_structs;
+
 use moves::Walk;
 use reading::SheetAnswer;
 use text::Answer;

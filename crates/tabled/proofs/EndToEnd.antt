@@ -36,7 +36,7 @@ use Rattle.flat.proofs.Answers.{pointees, answers}
 use Rattle.tabled.specs.declared.OpReading.{OpReading}
 use Rattle.tabled.specs.declared.OpReading.the-variants.{Op, Unknown}
 use Rattle.tabled.specs.Chains.{opOf, opIn, places, chainAt, chainIn, roomIn, Lowered}
-use Rattle.tabled.specs.EndToEnd.{Calls, KeptBytes, EndToEnd}
+use Rattle.tabled.specs.EndToEnd.{Calls, KeptSteps, KeptBytes, EndToEnd}
 use Rattle.tabled.proofs.Laws.{steps-size, by-result}
 use Rattle.tabled.proofs.Fit.{all-fit}
 
@@ -109,6 +109,33 @@ lowered-in room s o ptr is steps h =
     let w = went (lowerChain s o ptr is) _ h in
     w .here ∙ ap ok (value-is (passed _ _ (w .rest)))
 
+-- ---- of a table that was read
+
+module _ {input table : List ℕ} {n : ℕ} (r : Read input table n) (op ptr : ℕ) (chain : List ℕ) (room : ℕ) where
+  -- what is answered is document 01's C for the sheet
+  pub in-sheet : (o : ChainOp) (is : List Index) → opOf op ≡ Op o → indicesOf chain ≡ ok is → length is ≤ max-indices → chainIn room table op ptr chain ≡ chainInRoom room (r .sheet) o ptr is
+  unfolding chainIn _>>=_
+  in-sheet o is eo ei few = asked eo ei ∙ same-chain r room o ptr is few
+    where
+      asked : opOf op ≡ Op o → indicesOf chain ≡ ok is → chainIn room table op ptr chain ≡ chainAt room table o ptr is
+      asked f g = rw (f, g)
+
+  -- and its steps keep demand 3
+  pub kept-steps : (steps : List QPtrOp) → chainIn room table op ptr chain ≡ ok steps → KeptSteps (r .sheet) op ptr chain steps
+  unfolding chainIn
+  kept-steps steps h =
+      let w = went (opIn (opOf op)) _ h in
+      let v = went (indicesOf chain) _ (w .rest) in
+      let few = few-asked room table (w .value) ptr (v .value) steps (v .rest) in
+      let lowered = lowered-in room (r .sheet) (w .value) ptr (v .value) steps (sym (same-chain r room (w .value) ptr (v .value) few) ∙ v .rest) in
+      record {
+        asked = w .value;
+        by-number = is-op (opOf op) (w .value) (w .here);
+        indices = v .value;
+        by-bytes = v .here;
+        kept = kept-by (r .sheet) (w .value) ptr (v .value) steps lowered;
+      }
+
 -- ---- both
 
 module _ (input : List ℕ) (op ptr : ℕ) (chain : List ℕ) (c : Calls input op ptr chain) where
@@ -117,36 +144,25 @@ module _ (input : List ℕ) (op ptr : ℕ) (chain : List ℕ) (c : Calls input o
 
   answered : (o : ChainOp) (is : List Index) → opOf op ≡ Op o → indicesOf chain ≡ ok is → length is ≤ max-indices
       → Lowered (chainInRoom (roomIn (c .out₀)) (r .sheet) o ptr is) (c .answer) (c .out₀) (c .out)
-  unfolding chainIn _>>=_
-  answered o is eo ei few =
-      by-result (sym (same-chain r (roomIn (c .out₀)) o ptr is few) ∙ sym (asked eo ei)) (c .lowered)
-    where
-      asked : opOf op ≡ Op o → indicesOf chain ≡ ok is → chainIn (roomIn (c .out₀)) (c .table) op ptr chain ≡ chainAt (roomIn (c .out₀)) (c .table) o ptr is
-      asked f g = rw (f, g)
+  answered o is eo ei few = by-result (sym (in-sheet r op ptr chain (roomIn (c .out₀)) o is eo ei few)) (c .lowered)
 
   kept : (count : ℕ) → c .answer ≡ Steps count → KeptBytes (r .sheet) op ptr chain (c .out) count
-  unfolding chainIn
   kept count e = by (chainIn (roomIn (c .out₀)) (c .table) op ptr chain) refl (sym e ∙ c .lowered .says) (c .lowered .holds)
     where
       by : (x : Result (List QPtrOp)) → chainIn (roomIn (c .out₀)) (c .table) op ptr chain ≡ x → Steps count ≡ walkOf 0 x → c .out ≡ over (stepsBytes (stepsOf x)) (c .out₀)
           → KeptBytes (r .sheet) op ptr chain (c .out) count
       by (refused m) i h k = absurd (let z : _≡_ {A = ℕ} 0 1 = cc in omega arith)
       by (ok steps) i h k =
-          let w = went (opIn (opOf op)) _ i in
-          let v = went (indicesOf chain) _ (w .rest) in
-          let few = few-asked (roomIn (c .out₀)) (c .table) (w .value) ptr (v .value) steps (v .rest) in
-          let lowered = lowered-in (roomIn (c .out₀)) (r .sheet) (w .value) ptr (v .value) steps (sym (same-chain r (roomIn (c .out₀)) (w .value) ptr (v .value) few) ∙ v .rest) in
           let counted : count ≡ 0 + length steps = cc in
+          let d = kept-steps r op ptr chain (roomIn (c .out₀)) steps i in
           record {
-            asked = w .value;
-            by-number = is-op (opOf op) (w .value) (w .here);
-            indices = v .value;
-            by-bytes = v .here;
             steps = steps;
             many = omega (arith, counted);
             bytes = rw k (take-at (stepsBytes steps) (drop (length (stepsBytes steps)) (c .out₀)) (20 * count) (omega (arith, counted, steps-size steps)));
-            each = λ all j step g. rw k (step-back steps (drop (length (stepsBytes steps)) (c .out₀)) (all-fit steps (steps-numbers (r .sheet) (reads-good input (r .sheet) (r .is-sheet)) (w .value) ptr (v .value) (indices-fit chain (v .value) all (v .here)) steps lowered) (steps-fit (r .sheet) (w .value) ptr (v .value) steps lowered .0)) j step g);
-            kept = kept-by (r .sheet) (w .value) ptr (v .value) steps lowered;
+            each = λ all j step g. rw k (step-back steps (drop (length (stepsBytes steps)) (c .out₀))
+                (all-fit steps (steps-numbers (r .sheet) (reads-good input (r .sheet) (r .is-sheet)) (d .asked) ptr (d .indices) (indices-fit chain (d .indices) all (d .by-bytes)) steps (d .kept .accepted))
+                (steps-fit (r .sheet) (d .asked) ptr (d .indices) steps (d .kept .accepted) .0)) j step g);
+            kept = d;
           }
 
 pub end-to-end : EndToEnd

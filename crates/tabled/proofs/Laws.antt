@@ -2,14 +2,14 @@
 use Prim.Native.Nat.{ℕ, zero, suc, _+_, _*_, _/_, _%_, _≤_, _<_, min}
 use native.Mathlib.Omega.{arith}
 use mathlib.Core.Path.{_≡_, refl, sym, ap, _∙_, subst}
-use mathlib.Core.Bool.{Bool, true, false}
+use mathlib.Core.Bool.{Bool, true, false, cond}
 use mathlib.Core.List.{List, [], _∷_}
 use lib.Dec.{eqb, ltb}
 use lib.ListN.{length, take, drop, replicate, length-append, length-replicate}
 use lib.Seq.{sets, take-at}
-use borrow.Author.Tests.{eqb-true, le-ltb, lt-ltb, ltb-true, ltb-false}
+use borrow.Author.Tests.{eqb-true, le-leb, lt-leb, le-ltb, lt-ltb, ltb-true, ltb-false}
 use Rattle.arith.specs.Refusals.{Result, ok, refused, _>>=_, _>>_, refuse_when_, refuse_unless_, inRoom, misread, oversize, short-list}
-use Rattle.arith.proofs.Results.{went, passed, value-is, first-true}
+use Rattle.arith.proofs.Results.{went, passed, value-is, not-refused, not-met, first-true}
 use Rattle.spirv.specs.declared.ChainOp.{ChainOp}
 use Rattle.spirv.specs.declared.Index.{Index}
 use Rattle.shapes.specs.declared.LayoutConfig.{LayoutConfig}
@@ -36,9 +36,11 @@ use Rattle.lowering.proofs.Written.{read-again}
 use Rattle.wire.specs.Wire.{formedBytes, indicesOf, stepBytes, stepsBytes}
 use Rattle.wire.proofs.Back.{step-size}
 use Rattle.flat.specs.Table.{countIn, settingIn, typesIn, membersIn, placesIn, layoutsIn}
+use Rattle.tabled.specs.declared.Asked.{Asked}
+use Rattle.tabled.specs.declared.Asked.the-variants as asked
 use Rattle.tabled.specs.declared.OpReading.{OpReading}
 use Rattle.tabled.specs.declared.OpReading.the-variants.{Op, Unknown}
-use Rattle.tabled.specs.Chains.{opOf, places, chainAt, chainIn, roomIn, Lowered, heldBy}
+use Rattle.tabled.specs.Chains.{opOf, opIn, askedIn, askedOf, places, chainAt, chainOf, walkIn, chainIn, roomIn, Lowered, heldBy}
 
 -- ---- counts
 
@@ -69,7 +71,7 @@ steps-size [] = refl
 steps-size (s ∷ ss) = let e = steps-size ss in omega (arith, length-append (stepBytes s) (stepsBytes ss), step-size s)
 
 module _ (ks bs ls ms is : List ℕ) where
-  steps-count : (n : ℕ) → length (stepsIn ks bs ls ms is n) ≡ n
+  pub steps-count : (n : ℕ) → length (stepsIn ks bs ls ms is n) ≡ n
   unfolding stepsIn
   steps-count zero = refl
   steps-count (suc n) = let e = steps-count n in omega (arith, length-append (stepsIn ks bs ls ms is n) (stepAt ks bs ls ms is n ∷ []))
@@ -138,15 +140,6 @@ module _ (room : ℕ) (cfg : LayoutConfig) (n : ℕ) (types layouts offsets memb
           ∙ ap (λ (k : ℕ). ok (stepsIn ks′ bs′ ls′ ms′ is′ k)) z
           ∙ ap ok (read-again steps ks bs ls ms is ks′ bs′ ls′ ms′ is′ (g .fit) (omega (arith, g .few)) stored)
 
--- of the words that bytes spell
-pub lowered-is : (room : ℕ) (cfg : LayoutConfig) (n : ℕ) (types layouts offsets members : List ℕ) (op : ChainOp) (ptr : ℕ) (bytes : List ℕ) {chain : List ℕ} {v r : Walk} {old new : List ℕ}
-    {ks bs ls ms is ks′ bs′ ls′ ms′ is′ : List ℕ} → chain ≡ wordsOf bytes → Wrote 0 (chainOver room cfg n types layouts offsets members op ptr chain) v ks bs ls ms is ks′ bs′ ls′ ms′ is′
-    → room ≤ roomOf ks bs ls ms is → Lowered (inRoom (roomIn old) length (heldBy v ks′ bs′ ls′ ms′ is′)) r old new
-    → Lowered (inRoom (roomIn old) length (chainOver room cfg n types layouts offsets members op ptr (wordsOf bytes))) r old new
-lowered-is room cfg n types layouts offsets members op ptr bytes {chain} {v} {r} {old} {new} e x wide y =
-    subst (λ (o : Result (List QPtrOp)). Lowered (inRoom (roomIn old) length o) r old new)
-    (held-is room cfg n types layouts offsets members op ptr chain x wide ∙ ap (chainOver room cfg n types layouts offsets members op ptr) e) y
-
 -- ---- over a table
 
 -- a room within a room
@@ -160,55 +153,193 @@ room-joined a b (ok x) = by (ltb b (length x)) (ltb a (length x)) refl refl
     by false true e f = let g = ltb-true a (length x) f in rw (e, f, lt-ltb (min b a) (length x) (omega arith))
     by false false e f = let g = ltb-false b (length x) e in let h = ltb-false a (length x) f in rw (e, f, le-ltb (min b a) (length x) (omega arith))
 
-module _ (room : ℕ) (table : List ℕ) (o : ChainOp) (ptr : ℕ) (s : List ℕ) where
+pub at-table : (room : ℕ) (table : List ℕ) (o : ChainOp) (ptr : ℕ) (s : List ℕ) → formedBytes s ≡ true → ptr < countIn table → length s / 8 ≤ 255 → (p : ℕ) → places (length s / 8) ≡ p
+    → chainAt room table o ptr (indicesIn (wordsOf s)) ≡ inRoom room length (chainOf p table o ptr (wordsOf s))
+unfolding chainAt chainOver _>>_ refuse_unless_ refuse_when_
+at-table room table o ptr s f h few p e =
+    let is : List Index = indicesIn (wordsOf s) in
+    let c = bytes-count s in
+    let w = words-length (length s / 4) s in
+    let v = even s f in
+    let q : places (length is) ≡ p = ap places c ∙ e in
+    rw (lt-ltb ptr (countIn table) h, le-ltb 510 (length (wordsOf s)) (omega arith), le-ltb max-indices (length is) (omega arith), q)
+    (sym (room-joined room p (chainBy (settingIn table) (pointeeAt (typesIn table) (countIn table)) (answersIn (layoutsIn table) (countIn table) (placesIn table) (membersIn table)) o ptr is)))
+
+pub wrote-over : (table : List ℕ) (room : ℕ) (o : ChainOp) (ptr : ℕ) (words : List ℕ) {cfg : LayoutConfig} {n : ℕ} {ty la os me : List ℕ} {r : Walk} {ks bs ls ms is ks′ bs′ ls′ ms′ is′ : List ℕ}
+    → n ≡ countIn table → cfg ≡ settingIn table → ty ≡ typesIn table → la ≡ layoutsIn table → os ≡ placesIn table → me ≡ membersIn table
+    → Wrote 0 (chainOver room cfg n ty la os me o ptr words) r ks bs ls ms is ks′ bs′ ls′ ms′ is′ → Wrote 0 (chainOf room table o ptr words) r ks bs ls ms is ks′ bs′ ls′ ms′ is′
+wrote-over table room o ptr words {r = r} {ks} {bs} {ls} {ms} {is} {ks′} {bs′} {ls′} {ms′} {is′} en ec et el eo em x =
+    subst (λ (q : Result (List QPtrOp)). Wrote 0 q r ks bs ls ms is ks′ bs′ ls′ ms′ is′) (rw (en, ec, et, el, eo, em)) x
+
+-- ---- what is asked
+
+module _ (table : List ℕ) (op ptr : ℕ) (s : List ℕ) where
   abbrev is : List Index
   is = indicesIn (wordsOf s)
 
-  pub no-type : countIn table ≤ ptr → chainAt room table o ptr is ≡ refused misread
-  unfolding chainAt _>>_ refuse_unless_
-  no-type h = rw (le-ltb ptr (countIn table) h)
+  module _ {r : OpReading} (read : r ≡ opOf op) where
+    pub no-op : r ≡ Unknown → askedIn table op ptr s ≡ refused misread
+    unfolding askedIn _>>=_
+    no-op u = let h : opOf op ≡ Unknown = sym read ∙ u in rw h
 
-  pub too-long : ptr < countIn table → 255 < length s / 8 → chainAt room table o ptr is ≡ refused oversize
-  unfolding chainAt _>>_ refuse_unless_ refuse_when_
-  too-long h g = let c = bytes-count s in rw (lt-ltb ptr (countIn table) h, lt-ltb max-indices (length is) (omega arith))
+    module _ (o : ChainOp) (is-op : r ≡ Op o) where
+      op-is : opOf op ≡ Op o
+      op-is = sym read ∙ is-op
 
-  pub at-table : formedBytes s ≡ true → ptr < countIn table → length s / 8 ≤ 255 → (p : ℕ) → places (length s / 8) ≡ p
-      → inRoom room length (chainOver p (settingIn table) (countIn table) (typesIn table) (layoutsIn table) (placesIn table) (membersIn table) o ptr (wordsOf s)) ≡ chainAt room table o ptr is
-  unfolding chainAt chainOver _>>_ refuse_unless_ refuse_when_
-  at-table f h few p e =
+      pub not-formed : formedBytes s ≡ false → askedIn table op ptr s ≡ refused misread
+      unfolding askedIn indicesOf _>>=_ _>>_ refuse_unless_
+      not-formed f = rw (op-is, f)
+
+      module _ (f : formedBytes s ≡ true) where
+        pub no-type : countIn table ≤ ptr → askedIn table op ptr s ≡ refused misread
+        unfolding askedIn indicesOf _>>=_ _>>_ refuse_unless_
+        no-type h = rw (op-is, f, le-ltb ptr (countIn table) h)
+
+        pub too-long : ptr < countIn table → 255 < length s / 8 → askedIn table op ptr s ≡ refused oversize
+        unfolding askedIn indicesOf _>>=_ _>>_ refuse_unless_ refuse_when_
+        too-long h g = let c = bytes-count s in rw (op-is, f, lt-ltb ptr (countIn table) h, lt-ltb max-indices (length is) (omega arith))
+
+        pub all-good : ptr < countIn table → length s / 8 ≤ 255 → askedIn table op ptr s ≡ ok o
+        unfolding askedIn indicesOf _>>=_ _>>_ refuse_unless_ refuse_when_
+        all-good h g = let c = bytes-count s in rw (op-is, f, lt-ltb ptr (countIn table) h, le-ltb max-indices (length is) (omega arith))
+
+  -- the steps, once it is known what is asked
+  pub by-asked : (room : ℕ) → chainIn room table op ptr s ≡ (askedIn table op ptr s >>= λ o. chainAt room table o ptr is)
+  unfolding chainIn askedIn chainAt indicesOf _>>=_ _>>_ refuse_unless_ refuse_when_
+  by-asked room = by (opOf op) (formedBytes s) (ltb ptr (countIn table)) (ltb max-indices (length is)) refl refl refl refl
+    where
+      by : (r : OpReading) (f t m : Bool) → opOf op ≡ r → formedBytes s ≡ f → ltb ptr (countIn table) ≡ t → ltb max-indices (length is) ≡ m
+          → chainIn room table op ptr s ≡ (askedIn table op ptr s >>= λ o. chainAt room table o ptr is)
+      by Unknown f t m e g h i = rw e
+      by (Op o) false t m e g h i = rw (e, g)
+      by (Op o) true false m e g h i = rw (e, g, h)
+      by (Op o) true true true e g h i = rw (e, g, h, i)
+      by (Op o) true true false e g h i = rw (e, g, h, i)
+
+  pub was-refused : (room e : ℕ) → askedIn table op ptr s ≡ refused e → chainIn room table op ptr s ≡ refused e
+  unfolding _>>=_
+  was-refused room e h = by-asked room ∙ ap (λ (a : Result ChainOp). a >>= λ o. chainAt room table o ptr is) h
+
+  -- what is known of a chain that is asked
+  pub record Going (o : ChainOp) : Type 0 where
+    pub formed : formedBytes s ≡ true
+    pub there : ptr < countIn table
+    pub few : length s / 8 ≤ 255
+    pub at-op : (room : ℕ) → chainIn room table op ptr s ≡ chainAt room table o ptr is
+
+  whole-bytes : (is : List Index) → indicesOf s ≡ ok is → formedBytes s ≡ true
+  unfolding indicesOf
+  whole-bytes is h = not-refused misread (formedBytes s) _ h
+
+  read-bytes : (js : List Index) → indicesOf s ≡ ok js → js ≡ is
+  unfolding indicesOf
+  read-bytes js h = sym (value-is (passed _ _ h))
+
+  pub was-asked : (o : ChainOp) → askedIn table op ptr s ≡ ok o → Going o
+  unfolding askedIn _>>=_
+  was-asked o h =
+      let w = went (opIn (opOf op)) _ h in
+      let v = went (indicesOf s) _ (w .rest) in
       let c = bytes-count s in
-      let w = words-length (length s / 4) s in
-      let v = even s f in
-      let q : places (length is) ≡ p = ap places c ∙ e in
-      rw (lt-ltb ptr (countIn table) h, le-ltb 510 (length (wordsOf s)) (omega arith), le-ltb max-indices (length is) (omega arith), q)
-      (room-joined room p (chainBy (settingIn table) (pointeeAt (typesIn table) (countIn table)) (answersIn (layoutsIn table) (countIn table) (placesIn table) (membersIn table)) o ptr is))
+      let j = read-bytes (v .value) (v .here) in
+      let few : ltb max-indices (length is) ≡ false = rw j at (not-met oversize (ltb max-indices (length (v .value))) _ (passed _ _ (v .rest))) in
+      let most = ltb-false max-indices (length is) few in
+      record {
+        formed = whole-bytes (v .value) (v .here);
+        there = ltb-true ptr (countIn table) (not-refused misread (ltb ptr (countIn table)) _ (v .rest));
+        few = omega (arith, most, c);
+        at-op = λ room. by-asked room ∙ ap (λ (a : Result ChainOp). a >>= λ q. chainAt room table q ptr is) h;
+      }
+
+  -- the steps of a chain that is asked, kept in p places
+  pub steps-by : (room : ℕ) (o : ChainOp) → askedIn table op ptr s ≡ ok o → (p : ℕ) → places (length s / 8) ≡ p → chainIn room table op ptr s ≡ inRoom room length (chainOf p table o ptr (wordsOf s))
+  steps-by room o h p e = let g = was-asked o h in g .at-op room ∙ at-table room table o ptr s (g .formed) (g .there) (g .few) p e
+
+-- which places, by the bytes of the indices
+pub short : (s : List ℕ) → length s ≤ 128 → places (length s / 8) ≡ 17
+short s h = ap (λ (b : Bool). cond {A = ℕ} b 17 256) (le-leb (length s / 8) 16 (omega arith))
+
+module _ (table : List ℕ) (op ptr : ℕ) (s : List ℕ) {o : ChainOp} (h : askedIn table op ptr s ≡ ok o) where
+  pub long : 128 < length s → places (length s / 8) ≡ 256
+  long g = let e = even s (was-asked table op ptr s o h .formed) in ap (λ (b : Bool). cond {A = ℕ} b 17 256) (lt-leb (length s / 8) 16 (omega arith))
+
+  pub at-most : length s ≤ 2040
+  at-most = let w = was-asked table op ptr s o h in omega (arith, even s (w .formed), w .few)
 
 pub refused-by : {result : Result (List QPtrOp)} (e : ℕ) (old : List ℕ) → result ≡ refused e → Lowered result (Refused e) old old
 refused-by e old h = record { says = rw h; holds = rw h }
 
-pub formed-by : (table : List ℕ) (o : ChainOp) (ptr : ℕ) (s : List ℕ) {cfg : LayoutConfig} {n : ℕ} {ty la os me : List ℕ} {r : Walk} {old new : List ℕ} (p : ℕ)
-    → formedBytes s ≡ true → ptr < n → length s / 8 ≤ 255 → places (length s / 8) ≡ p
-    → n ≡ countIn table → cfg ≡ settingIn table → ty ≡ typesIn table → la ≡ layoutsIn table → os ≡ placesIn table → me ≡ membersIn table
-    → Lowered (inRoom (roomIn old) length (chainOver p cfg n ty la os me o ptr (wordsOf s))) r old new
-    → Lowered (chainAt (roomIn old) table o ptr (indicesIn (wordsOf s))) r old new
-formed-by table o ptr s {cfg} {n} {ty} {la} {os} {me} {r} {old} {new} p f h few e en ec et el eo em x =
-    subst (λ (q : Result (List QPtrOp)). Lowered q r old new)
-    ((rw (en, ec, et, el, eo, em)) ∙ at-table (roomIn old) table o ptr s f (rw en at h) few p e) x
+-- which it was, of what is answered
+pub is-refused : {r : Result ChainOp} {a : Asked} {e : ℕ} → a ≡ askedOf r → a ≡ asked.Refused e → r ≡ refused e
+is-refused {r} {a} {e} h g = by r (sym h ∙ g)
+  where
+    by : (x : Result ChainOp) → askedOf x ≡ asked.Refused e → x ≡ refused e
+    by (ok o) i = absurd (let z : _≡_ {A = ℕ} 0 1 = cc in omega arith)
+    by (refused n) i = ap refused cc
 
--- ---- by bytes
+pub is-chain : {r : Result ChainOp} {a : Asked} {o : ChainOp} → a ≡ askedOf r → a ≡ asked.Chain o → r ≡ ok o
+is-chain {r} {a} {o} h g = by r (sym h ∙ g)
+  where
+    by : (x : Result ChainOp) → askedOf x ≡ asked.Chain o → x ≡ ok o
+    by (ok p) i = ap ok cc
+    by (refused n) i = absurd (let z : _≡_ {A = ℕ} 0 1 = cc in omega arith)
 
-module _ (room : ℕ) (table : List ℕ) (op ptr : ℕ) (s : List ℕ) where
-  pub no-op : {r : OpReading} → r ≡ opOf op → r ≡ Unknown → chainIn room table op ptr s ≡ refused misread
-  unfolding chainIn _>>=_
-  no-op e u = let h : opOf op ≡ Unknown = sym e ∙ u in rw h
+-- ---- in the code's own lists
 
-  pub not-formed : {r : OpReading} (o : ChainOp) → r ≡ opOf op → r ≡ Op o → formedBytes s ≡ false → chainIn room table op ptr s ≡ refused misread
-  unfolding chainIn indicesOf _>>=_ _>>_ refuse_unless_
-  not-formed o e u f = let h : opOf op ≡ Op o = sym e ∙ u in rw (h, f)
+module _ (table : List ℕ) (op ptr : ℕ) (s : List ℕ) where
+  pub walk-refused : (room e : ℕ) → askedIn table op ptr s ≡ refused e → walkIn room table op ptr s ≡ refused e
+  unfolding walkIn _>>=_
+  walk-refused room e h = rw h
 
-  pub is-formed : {r : OpReading} (o : ChainOp) → r ≡ opOf op → r ≡ Op o → formedBytes s ≡ true → chainIn room table op ptr s ≡ chainAt room table o ptr (indicesIn (wordsOf s))
-  unfolding chainIn indicesOf _>>=_ _>>_ refuse_unless_
-  is-formed o e u f = let h : opOf op ≡ Op o = sym e ∙ u in rw (h, f)
+  pub walk-chain : (room : ℕ) (o : ChainOp) → askedIn table op ptr s ≡ ok o → walkIn room table op ptr s ≡ chainOf room table o ptr (wordsOf s)
+  unfolding walkIn _>>=_
+  walk-chain room o h = rw h
+
+  refused-in : (room e : ℕ) → inRoom {A = List QPtrOp} room length (refused e) ≡ refused e
+  unfolding inRoom _>>=_
+  refused-in room e = refl
+
+  -- what the caller gets of it
+  pub in-lists : (room p : ℕ) → (length s ≤ 128 → p ≡ 17) → (128 < length s → p ≡ 256) → chainIn room table op ptr s ≡ inRoom room length (walkIn p table op ptr s)
+  in-lists room p few many = by (askedIn table op ptr s) refl
+    where
+      by : (a : Result ChainOp) → askedIn table op ptr s ≡ a → chainIn room table op ptr s ≡ inRoom room length (walkIn p table op ptr s)
+      by (refused e) h = was-refused table op ptr s room e h ∙ sym (refused-in room e) ∙ ap (inRoom room length) (sym (walk-refused p e h))
+      by (ok o) h = steps-by table op ptr s room o h p (size (ltb 128 (length s)) refl) ∙ ap (inRoom room length) (sym (walk-chain p o h))
+        where
+          size : (b : Bool) → ltb 128 (length s) ≡ b → places (length s / 8) ≡ p
+          size true e = let g = ltb-true 128 (length s) e in long table op ptr s h g ∙ sym (many g)
+          size false e = let g = ltb-false 128 (length s) e in short s g ∙ sym (few g)
+
+  pub held-in : (room : ℕ) {w : Walk} {ks bs ls ms is ks′ bs′ ls′ ms′ is′ : List ℕ} → Wrote 0 (walkIn room table op ptr s) w ks bs ls ms is ks′ bs′ ls′ ms′ is′
+      → room ≤ roomOf ks bs ls ms is → heldBy w ks′ bs′ ls′ ms′ is′ ≡ walkIn room table op ptr s
+  held-in room {w} {ks} {bs} {ls} {ms} {is} {ks′} {bs′} {ls′} {ms′} {is′} x wide = by (askedIn table op ptr s) refl
+    where
+      by : (a : Result ChainOp) → askedIn table op ptr s ≡ a → heldBy w ks′ bs′ ls′ ms′ is′ ≡ walkIn room table op ptr s
+      by (refused e) h =
+          let q = walk-refused room e h in
+          ap (λ (v : Walk). heldBy v ks′ bs′ ls′ ms′ is′) (x .says ∙ ap (walkOf 0) q) ∙ sym q
+      by (ok o) h =
+          let q = walk-chain room o h in
+          held-is room (settingIn table) (countIn table) (typesIn table) (layoutsIn table) (placesIn table) (membersIn table) o ptr (wordsOf s)
+          (subst (λ (r : Result (List QPtrOp)). Wrote 0 r w ks bs ls ms is ks′ bs′ ls′ ms′ is′) q x) wide ∙ sym q
+
+  pub lowered-is : (room : ℕ) {v r : Walk} {old new : List ℕ} {ks bs ls ms is ks′ bs′ ls′ ms′ is′ : List ℕ} → Wrote 0 (walkIn room table op ptr s) v ks bs ls ms is ks′ bs′ ls′ ms′ is′
+      → room ≤ roomOf ks bs ls ms is → Lowered (inRoom (roomIn old) length (heldBy v ks′ bs′ ls′ ms′ is′)) r old new
+      → Lowered (inRoom (roomIn old) length (walkIn room table op ptr s)) r old new
+  lowered-is room {v} {r} {old} {new} x wide y = subst (λ (o : Result (List QPtrOp)). Lowered (inRoom (roomIn old) length o) r old new) (held-in room x wide) y
+
+  -- what a walk wrote is what was asked
+  pub wrote-refused : (room e : ℕ) {a : Asked} → a ≡ askedOf (askedIn table op ptr s) → a ≡ asked.Refused e → (ks bs ls ms is : List ℕ) → Wrote 0 (walkIn room table op ptr s) (Refused e) ks bs ls ms is ks bs ls ms is
+  wrote-refused room e h g ks bs ls ms is =
+      let q = walk-refused room e (is-refused h g) in
+      record { says = rw q; stored = rw q record { kinds = refl; bytes = refl; bounds = refl; marks = refl; indices = refl } }
+
+  pub wrote-chain : (room : ℕ) {a : Asked} {o : ChainOp} → a ≡ askedOf (askedIn table op ptr s) → a ≡ asked.Chain o → {words : List ℕ} → words ≡ wordsOf s → {r : Walk} {ks bs ls ms is ks′ bs′ ls′ ms′ is′ : List ℕ}
+      → Wrote 0 (chainOf room table o ptr words) r ks bs ls ms is ks′ bs′ ls′ ms′ is′ → Wrote 0 (walkIn room table op ptr s) r ks bs ls ms is ks′ bs′ ls′ ms′ is′
+  wrote-chain room {a} {o} h g e {r} {ks} {bs} {ls} {ms} {is} {ks′} {bs′} {ls′} {ms′} {is′} x =
+      subst (λ (q : Result (List QPtrOp)). Wrote 0 q r ks bs ls ms is ks′ bs′ ls′ ms′ is′)
+      (ap (λ (v : List ℕ). chainOf room table o ptr v) e ∙ sym (walk-chain room o (is-chain h g))) x
 
 pub by-result : {a b : Result (List QPtrOp)} {r : Walk} {old new : List ℕ} → a ≡ b → Lowered b r old new → Lowered a r old new
 by-result {a} {b} {r} {old} {new} e x = subst (λ (o : Result (List QPtrOp)). Lowered o r old new) (sym e) x

@@ -15,12 +15,15 @@ use Rattle.components.specs.Found.{answersIn}
 use Rattle.lower.specs.declared.QPtrOp.{QPtrOp}
 use Rattle.lower.specs.Chain.{chainBy}
 use Rattle.steps.specs.Lists.{stepsIn}
+use Rattle.words.specs.Little.{wordsOf}
 use Rattle.moves.specs.declared.Walk.{Walk}
 use Rattle.moves.specs.declared.Walk.the-variants.{Steps, Refused}
 use Rattle.moves.specs.Written.{walkOf, stepsOf}
-use Rattle.pointers.specs.OverTables.{pointeeAt}
+use Rattle.pointers.specs.OverTables.{pointeeAt, chainOver}
 use Rattle.wire.specs.Wire.{indicesOf, stepsBytes}
 use Rattle.flat.specs.Table.{countIn, settingIn, typesIn, membersIn, placesIn, layoutsIn}
+use Rattle.tabled.specs.declared.Asked.{Asked}
+use Rattle.tabled.specs.declared.Asked.the-variants as asked
 use Rattle.tabled.specs.declared.OpReading.{OpReading}
 use Rattle.tabled.specs.declared.OpReading.the-variants.{Op, Unknown}
 
@@ -36,6 +39,21 @@ opOf op =
 abbrev pub opIn : OpReading → Result ChainOp
 opIn (Op o) = ok o
 opIn Unknown = refused misread
+
+-- ---- what is asked
+
+-- 1 where there is no such op, no such index or no such type, 2 for more than 255 indices; else the op
+unfoldable pub askedIn : (table : List ℕ) → (op ptr : ℕ) → (bytes : List ℕ) → Result ChainOp
+askedIn table op ptr bytes = do
+  o ← opIn (opOf op)
+  is ← indicesOf bytes
+  refuse misread unless ltb ptr (countIn table)
+  refuse oversize when ltb max-indices (length is)
+  ok o
+
+abbrev pub askedOf : Result ChainOp → Asked
+askedOf (ok o) = asked.Chain o
+askedOf (refused e) = asked.Refused e
 
 -- ---- the steps
 
@@ -56,6 +74,16 @@ chainIn room table op ptr bytes = do
   o ← opIn (opOf op)
   is ← indicesOf bytes
   chainAt room table o ptr is
+
+-- by the words of the indices
+abbrev pub chainOf : (room : ℕ) → (table : List ℕ) → ChainOp → (ptr : ℕ) → (words : List ℕ) → Result (List QPtrOp)
+chainOf room table o ptr words = chainOver room (settingIn table) (countIn table) (typesIn table) (layoutsIn table) (placesIn table) (membersIn table) o ptr words
+
+-- what is asked, in the room of the code's own lists
+unfoldable pub walkIn : (room : ℕ) → (table : List ℕ) → (op ptr : ℕ) → (bytes : List ℕ) → Result (List QPtrOp)
+walkIn room table op ptr bytes = do
+  o ← askedIn table op ptr bytes
+  chainOf room table o ptr (wordsOf bytes)
 
 -- ---- as bytes
 

@@ -33,18 +33,22 @@ pub record Calls (input : List ℕ) (op ptr : ℕ) (chain : List ℕ) : Type 0 w
   pub answer : Walk
   pub lowered : Lowered (chainIn (roomIn out₀) table op ptr chain) answer out₀ out
 
--- the first `count` steps of `out`, 20 bytes each, keep demand 3 for the op and the indices that were asked
-pub record KeptBytes (s : Sheet) (op ptr : ℕ) (chain out : List ℕ) (count : ℕ) : Type 0 where
+-- steps that keep demand 3 for the op and the indices that were asked
+pub record KeptSteps (s : Sheet) (op ptr : ℕ) (chain : List ℕ) (steps : List QPtrOp) : Type 0 where
   pub asked : ChainOp
   pub by-number : opOf op ≡ Op asked
   pub indices : List Index
   pub by-bytes : indicesOf chain ≡ ok indices
+  pub kept : Kept s asked ptr indices steps
+
+-- the first `count` steps of `out`, 20 bytes each, keep it
+pub record KeptBytes (s : Sheet) (op ptr : ℕ) (chain out : List ℕ) (count : ℕ) : Type 0 where
   pub steps : List QPtrOp
   pub many : length steps ≡ count
   pub bytes : take (20 * count) out ≡ stepsBytes steps
   -- and these are the steps that a host reads in the bytes
   pub each : All Byte chain → (j : ℕ) (step : QPtrOp) → getElem? steps j ≡ some step → stepNo out j ≡ step
-  pub kept : Kept s asked ptr indices steps
+  pub kept : KeptSteps s op ptr chain steps
 
 -- the answer and the bytes are those of document 01's C for the sheet that the bytes are, in the room that the caller lends; and where the answer
 -- is a count, that many steps stand there, and they keep demand 3

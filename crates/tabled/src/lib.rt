@@ -4,15 +4,12 @@ use shapes::LayoutConfig;
 use shapes::rows;
 use spirv::ChainOp;
 ghost use mathlib.Core.Path.{_≡_};
-ghost use mathlib.Core.Bool.{true};
 ghost use Prim.Native.Nat.{_/_, _≤_};
 ghost use lib.ListN.{length};
 ghost use Rattle.arith.specs.Refusals.{inRoom};
-ghost use Rattle.words.specs.Little.{wordsOf};
-ghost use Rattle.moves.specs.Moves.{indicesIn};
-ghost use Rattle.pointers.specs.OverTables.{chainOver};
-ghost use Rattle.wire.specs.Wire.{formedBytes};
-ghost use Rattle.tabled.specs.Chains.{opOf, chainAt, chainIn, roomIn, Lowered, heldBy};
+ghost use Rattle.moves.specs.Written.{Wrote};
+ghost use Rattle.chain.specs.Chains.{roomOf};
+ghost use Rattle.tabled.specs.Chains.{opOf, askedIn, askedOf, chainOf, walkIn, chainIn, roomIn, Lowered, heldBy};
 
 // The op that a number is, if it is one.
 pub enum OpReading {
@@ -37,6 +34,123 @@ fn op_of(op: u32) -> OpReading
     }
     OpReading::Unknown
 }
+
+// What is asked: a chain of an op, from a type that the table has, by at most 255 indices; or why not.
+pub enum Asked {
+    Chain(ChainOp),
+    Refused(u32),
+}
+
+pub fn ask(table: &[u32], op: u32, ptr: u32, chain: &[u8]) -> Asked
+    ensures { λ r. ⌜ r ≡ askedOf (askedIn (now (table .entry)) op ptr (now (chain .entry))) ⌝ }
+{
+    match op_of(op) {
+        OpReading::Unknown => Asked::Refused(1),
+        OpReading::Op(o) => {
+            if !wire::formed(chain) {
+                return Asked::Refused(1);
+            }
+            if spirv::word_at(table, 0) <= ptr {
+                return Asked::Refused(1);
+            }
+            if 255 < chain.len() / 8 {
+                return Asked::Refused(2);
+            }
+            Asked::Chain(o)
+        }
+    }
+}
+
+// The steps of a chain over a table, by the words of its indices, into five lists.
+pub fn walk(
+    table: &[u32],
+    op: ChainOp,
+    ptr: u32,
+    chain: &[u32],
+    kinds: &mut [u32],
+    bytes: &mut [u32],
+    bounds: &mut [u32],
+    marks: &mut [u32],
+    indices: &mut [u32],
+) -> Walk
+    ensures { λ r. ⌜ Wrote 0 (chainOf (roomOf (now (kinds .entry)) (now (bytes .entry)) (now (bounds .entry)) (now (marks .entry)) (now (indices .entry))) (now (table .entry)) op ptr (now (chain .entry))) r (now (kinds .entry)) (now (bytes .entry)) (now (bounds .entry)) (now (marks .entry)) (now (indices .entry)) (now (kinds .exit)) (now (bytes .exit)) (now (bounds .exit)) (now (marks .exit)) (now (indices .exit)) ⌝ }
+{
+    let n = spirv::word_at(table, 0);
+    let cfg = shapes::words::setting_of(rows::span(table, 1, 6));
+    let types = rows::span(table, 7, 1536);
+    let members = rows::span(table, 1543, 1024);
+    let offsets = rows::span(table, 3591, 1024);
+    let layouts = rows::span(table, 4615, 2560);
+    lowering::lower_access_chain(
+        cfg,
+        n,
+        types,
+        layouts,
+        offsets,
+        members,
+        op,
+        ptr,
+        chain,
+        kinds,
+        bytes,
+        bounds,
+        marks,
+        indices,
+    )
+}
+
+// The steps of what is asked into five lists, by at most 16 indices: few words are cleared for them.
+pub fn walk_few(
+    table: &[u32],
+    op: u32,
+    ptr: u32,
+    chain: &[u8],
+    kinds: &mut [u32],
+    bytes: &mut [u32],
+    bounds: &mut [u32],
+    marks: &mut [u32],
+    indices: &mut [u32],
+) -> Walk
+    requires { ⌜ length (now chain) ≤ 128 ⌝ }
+    ensures { λ r. ⌜ Wrote 0 (walkIn (roomOf (now (kinds .entry)) (now (bytes .entry)) (now (bounds .entry)) (now (marks .entry)) (now (indices .entry))) (now (table .entry)) op ptr (now (chain .entry))) r (now (kinds .entry)) (now (bytes .entry)) (now (bounds .entry)) (now (marks .entry)) (now (indices .entry)) (now (kinds .exit)) (now (bytes .exit)) (now (bounds .exit)) (now (marks .exit)) (now (indices .exit)) ⌝ }
+{
+    match ask(table, op, ptr, chain) {
+        Asked::Refused(e) => Walk::Refused(e),
+        Asked::Chain(o) => {
+            let mut list = [0u32; 32];
+            words::read_words(chain, &mut list);
+            let words = rows::span(&list, 0, (chain.len() / 4) as u32);
+            walk(table, o, ptr, words, kinds, bytes, bounds, marks, indices)
+        }
+    }
+}
+
+// The steps of what is asked into five lists, by at most 255 indices.
+pub fn walk_many(
+    table: &[u32],
+    op: u32,
+    ptr: u32,
+    chain: &[u8],
+    kinds: &mut [u32],
+    bytes: &mut [u32],
+    bounds: &mut [u32],
+    marks: &mut [u32],
+    indices: &mut [u32],
+) -> Walk
+    ensures { λ r. ⌜ Wrote 0 (walkIn (roomOf (now (kinds .entry)) (now (bytes .entry)) (now (bounds .entry)) (now (marks .entry)) (now (indices .entry))) (now (table .entry)) op ptr (now (chain .entry))) r (now (kinds .entry)) (now (bytes .entry)) (now (bounds .entry)) (now (marks .entry)) (now (indices .entry)) (now (kinds .exit)) (now (bytes .exit)) (now (bounds .exit)) (now (marks .exit)) (now (indices .exit)) ⌝ }
+{
+    match ask(table, op, ptr, chain) {
+        Asked::Refused(e) => Walk::Refused(e),
+        Asked::Chain(o) => {
+            let mut list = [0u32; 510];
+            words::read_words(chain, &mut list);
+            let words = rows::span(&list, 0, (chain.len() / 4) as u32);
+            walk(table, o, ptr, words, kinds, bytes, bounds, marks, indices)
+        }
+    }
+}
+
+// ---- as bytes
 
 // The steps that a walk left in five lists, as bytes; 24 where these don't fit.
 fn put(
@@ -63,39 +177,20 @@ fn put(
 }
 
 // At most 16 indices: little is cleared for them.
-fn lower_few(
-    cfg: LayoutConfig,
-    n: u32,
-    types: &[u32],
-    layouts: &[u32],
-    offsets: &[u32],
-    members: &[u32],
-    op: ChainOp,
-    ptr: u32,
-    chain: &[u8],
-    out: &mut [u8],
-) -> Walk
+fn lower_few(table: &[u32], op: u32, ptr: u32, chain: &[u8], out: &mut [u8]) -> Walk
     requires { ⌜ length (now chain) ≤ 128 ⌝ }
-    ensures { λ r. ⌜ Lowered (inRoom (roomIn (now (out .entry))) length (chainOver 17 cfg n (now (types .entry)) (now (layouts .entry)) (now (offsets .entry)) (now (members .entry)) op ptr (wordsOf (now (chain .entry))))) r (now (out .entry)) (now (out .exit)) ⌝ }
+    ensures { λ r. ⌜ Lowered (inRoom (roomIn (now (out .entry))) length (walkIn 17 (now (table .entry)) op ptr (now (chain .entry)))) r (now (out .entry)) (now (out .exit)) ⌝ }
 {
-    let mut list = [0u32; 32];
-    words::read_words(chain, &mut list);
-    let words = rows::span(&list, 0, (chain.len() / 4) as u32);
     let mut kinds = [0u32; 17];
     let mut bytes = [0u32; 17];
     let mut bounds = [0u32; 17];
     let mut marks = [0u32; 17];
     let mut indices = [0u32; 17];
-    let w = lowering::lower_access_chain(
-        cfg,
-        n,
-        types,
-        layouts,
-        offsets,
-        members,
+    let w = walk_few(
+        table,
         op,
         ptr,
-        words,
+        chain,
         &mut kinds,
         &mut bytes,
         &mut bounds,
@@ -106,39 +201,19 @@ fn lower_few(
 }
 
 // At most 255 indices.
-fn lower_many(
-    cfg: LayoutConfig,
-    n: u32,
-    types: &[u32],
-    layouts: &[u32],
-    offsets: &[u32],
-    members: &[u32],
-    op: ChainOp,
-    ptr: u32,
-    chain: &[u8],
-    out: &mut [u8],
-) -> Walk
-    requires { ⌜ length (now chain) ≤ 2040 ⌝ }
-    ensures { λ r. ⌜ Lowered (inRoom (roomIn (now (out .entry))) length (chainOver 256 cfg n (now (types .entry)) (now (layouts .entry)) (now (offsets .entry)) (now (members .entry)) op ptr (wordsOf (now (chain .entry))))) r (now (out .entry)) (now (out .exit)) ⌝ }
+fn lower_many(table: &[u32], op: u32, ptr: u32, chain: &[u8], out: &mut [u8]) -> Walk
+    ensures { λ r. ⌜ Lowered (inRoom (roomIn (now (out .entry))) length (walkIn 256 (now (table .entry)) op ptr (now (chain .entry)))) r (now (out .entry)) (now (out .exit)) ⌝ }
 {
-    let mut list = [0u32; 510];
-    words::read_words(chain, &mut list);
-    let words = rows::span(&list, 0, (chain.len() / 4) as u32);
     let mut kinds = [0u32; 256];
     let mut bytes = [0u32; 256];
     let mut bounds = [0u32; 256];
     let mut marks = [0u32; 256];
     let mut indices = [0u32; 256];
-    let w = lowering::lower_access_chain(
-        cfg,
-        n,
-        types,
-        layouts,
-        offsets,
-        members,
+    let w = walk_many(
+        table,
         op,
         ptr,
-        words,
+        chain,
         &mut kinds,
         &mut bytes,
         &mut bounds,
@@ -148,63 +223,12 @@ fn lower_many(
     put(w, &kinds, &bytes, &bounds, &marks, &indices, out)
 }
 
-// A chain of an op, by bytes that are indices.
-fn lower_formed(table: &[u32], op: ChainOp, ptr: u32, chain: &[u8], out: &mut [u8]) -> Walk
-    requires { ⌜ formedBytes (now chain) ≡ true ⌝ }
-    ensures { λ r. ⌜ Lowered (chainAt (roomIn (now (out .entry))) (now (table .entry)) op ptr (indicesIn (wordsOf (now (chain .entry))))) r (now (out .entry)) (now (out .exit)) ⌝ }
-{
-    let n = spirv::word_at(table, 0);
-    if n <= ptr {
-        return Walk::Refused(1);
-    }
-    let count = chain.len() / 8;
-    if 255 < count {
-        return Walk::Refused(2);
-    }
-    let cfg = shapes::words::setting_of(rows::span(table, 1, 6));
-    let types = rows::span(table, 7, 1536);
-    let members = rows::span(table, 1543, 1024);
-    let offsets = rows::span(table, 3591, 1024);
-    let layouts = rows::span(table, 4615, 2560);
-    if count <= 16 {
-        return lower_few(
-            cfg,
-            n,
-            types,
-            layouts,
-            offsets,
-            members,
-            op,
-            ptr,
-            chain,
-            out,
-        );
-    }
-    lower_many(
-        cfg,
-        n,
-        types,
-        layouts,
-        offsets,
-        members,
-        op,
-        ptr,
-        chain,
-        out,
-    )
-}
-
 // The steps of a chain into `out`, 20 bytes each, and how many; or the refusal, and `out` as it was.
 pub fn lower_chain(table: &[u32], op: u32, ptr: u32, chain: &[u8], out: &mut [u8]) -> Walk
     ensures { λ r. ⌜ Lowered (chainIn (roomIn (now (out .entry))) (now (table .entry)) op ptr (now (chain .entry))) r (now (out .entry)) (now (out .exit)) ⌝ }
 {
-    match op_of(op) {
-        OpReading::Unknown => Walk::Refused(1),
-        OpReading::Op(o) => {
-            if !wire::formed(chain) {
-                return Walk::Refused(1);
-            }
-            lower_formed(table, o, ptr, chain, out)
-        }
+    if chain.len() <= 128 {
+        return lower_few(table, op, ptr, chain, out);
     }
+    lower_many(table, op, ptr, chain, out)
 }

@@ -1,103 +1,81 @@
--- `tabled::lower_many` meets its contract: the words are read, lowered, and put. Assumes nothing.
+-- `tabled::lower_many` meets its contract: a chain is walked, and put. Assumes nothing.
 use denote.Ref.{now}
-use mathlib.Core.Path.{_∙_}
 use native.Mathlib.Omega.{arith}
-use Rattle.tabled.proofs.Laws.{words-read, lowered-is}
+use Rattle.tabled.proofs.Laws.{lowered-is}
 use borrow.Author.Needs.{needs}
 use Rattle.tabled.proofs.lower_many.Statement.{statement}
 use Rattle.tabled.proofs.lower_many.Tie as tie
+use Rattle.tabled.proofs.lower_many.Reads as reads
+use Rattle.tabled.proofs.lower_many.Lts as lts
+use Rattle.tabled.proofs.put.Reads as put-reads
+use Rattle.tabled.proofs.walk_many.Reads as walk-many-reads
 
--- src/lib.rt:125:30
-slice-aggregate-read-words : tie.Need-slice-aggregate-read-words
-slice-aggregate-read-words c = search needs
+-- src/lib.rt:217:9
+slice-aggregate-walk-many : tie.Need-slice-aggregate-walk-many
+slice-aggregate-walk-many c = search needs
 
--- src/lib.rt:125:5
-read-words-requires : tie.Need-read-words-requires
-read-words-requires c κs = search needs
+-- src/lib.rt:218:9
+slice-aggregate-walk-many-2 : tie.Need-slice-aggregate-walk-many-2
+slice-aggregate-walk-many-2 c = search needs
 
--- src/lib.rt:126:28
-slice-aggregate-span : tie.Need-slice-aggregate-span
-slice-aggregate-span c = search needs
+-- src/lib.rt:219:9
+slice-aggregate-walk-many-3 : tie.Need-slice-aggregate-walk-many-3
+slice-aggregate-walk-many-3 c = search needs
 
--- src/lib.rt:126:38
-cast-span : tie.Need-cast-span
-cast-span c = search needs
+-- src/lib.rt:220:9
+slice-aggregate-walk-many-4 : tie.Need-slice-aggregate-walk-many-4
+slice-aggregate-walk-many-4 c = search needs
 
--- src/lib.rt:126:9
-span-requires : tie.Need-span-requires
-span-requires c κs = search needs
+-- src/lib.rt:221:9
+slice-aggregate-walk-many-5 : tie.Need-slice-aggregate-walk-many-5
+slice-aggregate-walk-many-5 c = search needs
 
--- src/lib.rt:142:9
-slice-aggregate-lower-access-chain : tie.Need-slice-aggregate-lower-access-chain
-slice-aggregate-lower-access-chain c = search needs
+-- src/lib.rt:212:9
+walk-many-requires : tie.Need-walk-many-requires
+walk-many-requires c κs = search needs
 
--- src/lib.rt:143:9
-slice-aggregate-lower-access-chain-2 : tie.Need-slice-aggregate-lower-access-chain-2
-slice-aggregate-lower-access-chain-2 c = search needs
-
--- src/lib.rt:144:9
-slice-aggregate-lower-access-chain-3 : tie.Need-slice-aggregate-lower-access-chain-3
-slice-aggregate-lower-access-chain-3 c = search needs
-
--- src/lib.rt:145:9
-slice-aggregate-lower-access-chain-4 : tie.Need-slice-aggregate-lower-access-chain-4
-slice-aggregate-lower-access-chain-4 c = search needs
-
--- src/lib.rt:146:9
-slice-aggregate-lower-access-chain-5 : tie.Need-slice-aggregate-lower-access-chain-5
-slice-aggregate-lower-access-chain-5 c = search needs
-
--- src/lib.rt:132:9
-lower-access-chain-requires : tie.Need-lower-access-chain-requires
-lower-access-chain-requires c κs = search needs
-
--- src/lib.rt:148:12
+-- src/lib.rt:223:12
 slice-aggregate-put : tie.Need-slice-aggregate-put
 slice-aggregate-put c = search needs
 
--- src/lib.rt:148:20
+-- src/lib.rt:223:20
 slice-aggregate-put-2 : tie.Need-slice-aggregate-put-2
 slice-aggregate-put-2 c = search needs
 
--- src/lib.rt:148:28
+-- src/lib.rt:223:28
 slice-aggregate-put-3 : tie.Need-slice-aggregate-put-3
 slice-aggregate-put-3 c = search needs
 
--- src/lib.rt:148:37
+-- src/lib.rt:223:37
 slice-aggregate-put-4 : tie.Need-slice-aggregate-put-4
 slice-aggregate-put-4 c = search needs
 
--- src/lib.rt:148:45
+-- src/lib.rt:223:45
 slice-aggregate-put-5 : tie.Need-slice-aggregate-put-5
 slice-aggregate-put-5 c = search needs
 
--- src/lib.rt:148:5
+-- src/lib.rt:223:5
 put-requires : tie.Need-put-requires
 put-requires c κs = search needs
 
--- src/lib.rt:109:1
+-- src/lib.rt:204:1
 same-length : tie.Need-same-length
 same-length c = search needs
 
--- src/lib.rt:109:1
+-- src/lib.rt:204:1
 returns : tie.Need-returns
-returns c = lowered-is 256 _ _ _ _ _ _ _ _ (now (c .before .before .before .before .before .before .before .before .before .before .before .before .before .before .before .before .before .before .before .before .before .before .before .before .before .before .before .before .before .before .before .args .chain)) (c .before .before .before .before .before .before .before .before .before .before .before .before .before .before .before .before .before .before .before .before .span .ensures ∙ words-read 510 (now (c .before .before .before .before .before .before .before .before .before .before .before .before .before .before .before .before .before .before .before .before .before .before .before .before .before .before .before .before .before .before .before .args .chain)) (omega (arith, c .before .before .before .before .before .before .before .before .before .before .before .before .before .before .before .before .before .before .before .before .before .before .before .before .before .before .before .before .before .before .before .pre)) (c .before .before .before .before .before .before .before .before .before .before .before .before .before .before .before .before .before .before .before .before .before .before .before .read-words .ensures)) (c .before .before .before .before .before .before .before .before .before .before .before .before .before .before .lower-access-chain .ensures) (omega arith) (c .before .before .put .ensures)
+returns c = lowered-is (now (c .before .before .before .before .before .before .before .before .before .before .before .before .before .before .before .before .before .before .before .before .before .before .before .args .table)) _ _ (now (c .before .before .before .before .before .before .before .before .before .before .before .before .before .before .before .before .before .before .before .before .before .before .before .args .chain)) 256 (c .before .before .before .before .before .before .before .before .before .before .before .before .before .before .walk-many .ensures) (omega arith) (c .before .before .put .ensures)
 
 pub lower-many-spec : {M : Type 1} → statement M
 lower-many-spec =
     tie.close
     (tie.spec
-    slice-aggregate-read-words
-    read-words-requires
-    slice-aggregate-span
-    cast-span
-    span-requires
-    slice-aggregate-lower-access-chain
-    slice-aggregate-lower-access-chain-2
-    slice-aggregate-lower-access-chain-3
-    slice-aggregate-lower-access-chain-4
-    slice-aggregate-lower-access-chain-5
-    lower-access-chain-requires
+    slice-aggregate-walk-many
+    slice-aggregate-walk-many-2
+    slice-aggregate-walk-many-3
+    slice-aggregate-walk-many-4
+    slice-aggregate-walk-many-5
+    walk-many-requires
     slice-aggregate-put
     slice-aggregate-put-2
     slice-aggregate-put-3

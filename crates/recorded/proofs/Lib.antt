@@ -1,0 +1,7 @@
+pub mod Copying
+pub mod Element
+pub mod Elems
+pub mod Laws
+pub mod Lists
+pub mod SoFar
+pub mod While
