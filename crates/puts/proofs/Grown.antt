@@ -21,7 +21,7 @@ use Rattle.tally.specs.declared.Place.{Place}
 use Rattle.tally.specs.declared.Place.the-variants.{Closed, Open, After}
 use Rattle.tally.specs.declared.Tally.{Tally}
 use Rattle.tally.proofs.Decorated.{decorated, row-decorated}
-use Rattle.tally.proofs.Steps.{Added, Redone, RedoneAt, Grows}
+use Rattle.tally.proofs.Went.{Added, Redone, RedoneAt, Grows}
 use Rattle.puts.specs.Puts.{Untouched, freshRow, Declaring, RedecoratingAll, PutDecoration, Put}
 use Rattle.puts.specs.Puts.{Filled}
 use Rattle.puts.proofs.Stores.{words-more, last-again}

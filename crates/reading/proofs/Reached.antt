@@ -23,7 +23,8 @@ use Rattle.lines.specs.Says.{Says}
 use Rattle.tally.specs.declared.Tally.{Tally}
 use Rattle.tally.specs.declared.Step.the-variants.{Next, Refused}
 use Rattle.tally.specs.Counts.{readIn, Small, judged, judgedFirst, startTally}
-use Rattle.tally.proofs.Steps.{Matches, next-line, line-stops, reads-more, few-declared, some-type, start-matches, first-went, first-stops}
+use Rattle.tally.proofs.Went.{Matches}
+use Rattle.tally.proofs.Steps.{next-line, line-stops, reads-more, few-declared, some-type, start-matches, first-went, first-stops}
 use Rattle.reading.specs.declared.End.{End}
 use Rattle.reading.specs.declared.End.the-variants as end
 use Rattle.puts.specs.Puts.{Untouched, Filled, declaredCount, Putable, Wrote}

@@ -1,2 +1,3 @@
 pub mod Decorated
+pub mod Went
 pub mod Steps

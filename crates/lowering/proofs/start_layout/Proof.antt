@@ -1,8 +1,8 @@
+-- `lowering::start_layout` meets its contract: by the op. Assumes nothing.
 use mathlib.Core.Path.{_∙_}
 use Rattle.shapes.specs.Spans.{answerBy}
 use Rattle.shapes.specs.Rows.{answerAt}
 use Rattle.lowering.proofs.Chains.{by-element}
--- `lowering::start_layout` meets its contract: by the op. Assumes nothing.
 use Rattle.layout.specs.Arrays.{arrayLayout}
 use Rattle.layout.specs.Layouts.{runtimeArrayBy}
 use Rattle.lower.specs.Chain.{startLayout}

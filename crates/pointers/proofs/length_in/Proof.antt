@@ -1,5 +1,5 @@
-use denote.Ref.{now}
 -- `pointers::length_in` meets its contract: the member, its layout, its stride, and that it ends the buffer. Assumes nothing.
+use denote.Ref.{now}
 use mathlib.Core.Path.{sym, _∙_}
 use borrow.Author.Tests.{eq-eqb, ne-eqb}
 use Rattle.arith.specs.Refusals.{_>>=_, _>>_, refuse_unless_}
