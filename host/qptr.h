@@ -60,6 +60,20 @@ int64_t qptr_read_sheet(const uint8_t *sheet, size_t sheet_len, uint32_t *table,
 int64_t qptr_lower_chain(const uint32_t *table, size_t table_len, uint32_t op, uint32_t ptr, const uint8_t *indices, size_t indices_len,
                          uint8_t *steps, size_t steps_len);
 
+/* A step as a record: op (enum qptr_step_kind), bytes of an offset, stride and length or 0, whether its index is unknown, the index. */
+struct qptr_chain_step {
+    uint32_t op;
+    int32_t bytes;
+    uint32_t stride;
+    uint32_t length;
+    uint32_t index_kind;
+    uint32_t index;
+};
+
+/* Lowers a chain into records; how many steps. */
+int64_t qptr_lower_chain_steps(const uint32_t *table, size_t table_len, uint32_t op, uint32_t ptr, const uint8_t *indices, size_t indices_len,
+                               struct qptr_chain_step *steps, size_t steps_len);
+
 /* The layout of a type, 7 words and the offsets of its fields: form (enum qptr_form), length of a handle array or 0, size, alignment, legacy
    alignment, runtime stride or 0, stride of an array or 0; how many words. */
 int64_t qptr_type_layout(const uint32_t *table, size_t table_len, uint32_t ty, uint32_t *out, size_t out_len);

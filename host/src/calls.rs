@@ -1,9 +1,11 @@
 //! The C functions of libqptr.a over slices, one each: a slice is lent as its address and its length. All unsafe code is here.
 //!
 //! Any content and length of each list is allowed, and a refusal leaves every list as it was.
-use crate::Refusal;
+use crate::{QPtrChainStep, Refusal};
 
 mod ffi {
+    use crate::QPtrChainStep;
+
     unsafe extern "C" {
         pub fn qptr_answer_sheet(sheet: *const u8, sheet_len: usize, out: *mut u8, out_len: usize) -> i64;
         pub fn qptr_read_sheet(sheet: *const u8, sheet_len: usize, table: *mut u32, table_len: usize) -> i64;
@@ -15,6 +17,16 @@ mod ffi {
             indices: *const u8,
             indices_len: usize,
             steps: *mut u8,
+            steps_len: usize,
+        ) -> i64;
+        pub fn qptr_lower_chain_steps(
+            table: *const u32,
+            table_len: usize,
+            op: u32,
+            ptr: u32,
+            indices: *const u8,
+            indices_len: usize,
+            steps: *mut QPtrChainStep,
             steps_len: usize,
         ) -> i64;
         pub fn qptr_type_layout(table: *const u32, table_len: usize, ty: u32, out: *mut u32, out_len: usize) -> i64;
@@ -58,6 +70,12 @@ pub fn read_sheet(sheet: &[u8], table: &mut [u32]) -> Result<usize, Refusal> {
 pub fn lower_chain(table: &[u32], op: u32, ptr: u32, indices: &[u8], steps: &mut [u8]) -> Result<usize, Refusal> {
     let (at, len) = (indices.as_ptr(), indices.len());
     answered(unsafe { ffi::qptr_lower_chain(table.as_ptr(), table.len(), op, ptr, at, len, steps.as_mut_ptr(), steps.len()) })
+}
+
+/// The same into records; how many steps.
+pub fn lower_chain_steps(table: &[u32], op: u32, ptr: u32, indices: &[u8], steps: &mut [QPtrChainStep]) -> Result<usize, Refusal> {
+    let (at, len) = (indices.as_ptr(), indices.len());
+    answered(unsafe { ffi::qptr_lower_chain_steps(table.as_ptr(), table.len(), op, ptr, at, len, steps.as_mut_ptr(), steps.len()) })
 }
 
 /// The layout of a type, 7 words and the offsets of its fields; how many words.

@@ -10,7 +10,7 @@ mod table;
 
 pub use refusal::Refusal;
 pub use shapes::{Components, Handle, MaybeDynMemLayout, MemLayout, MemTypeLayout, TypeLayout};
-pub use steps::{Index, Op, Step};
+pub use steps::{Index, Op, QPtrChainStep, Step};
 pub use table::{BufferDynLen, Table};
 
 /// How many words the table of a sheet has.

@@ -1,4 +1,4 @@
-//! Indices and steps of a chain, and the bytes that hold them.
+//! Indices and steps of a chain, and the records and bytes that hold them.
 use crate::{INDEX_BYTES, STEP_BYTES};
 use std::num::NonZeroU32;
 
@@ -41,8 +41,33 @@ pub enum Step {
     DynOffset { stride: u32, bound: Option<NonZeroU32>, index: Index },
 }
 
+/// A step as a record, as the C functions write it. Op 1 is H, 2 B, 3 O, 4 D; an index of kind 0 is known; what a step does not have is 0.
+#[repr(C)]
+#[derive(Clone, Copy, Debug, Default, PartialEq, Eq, Hash)]
+pub struct QPtrChainStep {
+    pub op: u32,
+    pub bytes: i32,
+    pub stride: u32,
+    pub length: u32,
+    pub index_kind: u32,
+    pub index: u32,
+}
+
+impl From<QPtrChainStep> for Step {
+    fn from(step: QPtrChainStep) -> Step {
+        let index = Index::of(step.index_kind, step.index);
+        match step.op {
+            1 => Step::HandleArrayIndex(index),
+            3 => Step::Offset(step.bytes),
+            4 => Step::DynOffset { stride: step.stride, bound: NonZeroU32::new(step.length), index },
+            _ => Step::BufferData,
+        }
+    }
+}
+
 impl Step {
-    pub(crate) fn of(bytes: &[u8; STEP_BYTES]) -> Step {
+    /// The step that its 20 bytes hold.
+    pub fn from_bytes(bytes: &[u8; STEP_BYTES]) -> Step {
         let word = |i: usize| u32::from_le_bytes(std::array::from_fn(|k| bytes[4 * i + k]));
         match word(0) {
             1 => Step::HandleArrayIndex(Index::of(word(3), word(4))),

@@ -1,6 +1,6 @@
 //! The table of a sheet, and the questions that it answers.
 use crate::shapes::HEAD;
-use crate::{calls, Index, MemLayout, Op, Refusal, Step, TypeLayout, MOST_MEMBERS, MOST_STEPS, STEP_BYTES, TABLE_WORDS};
+use crate::{calls, Index, MemLayout, Op, QPtrChainStep, Refusal, Step, TypeLayout, MOST_MEMBERS, MOST_STEPS, TABLE_WORDS};
 use std::ops::Range;
 
 /// The types of a sheet, read and laid out.
@@ -37,9 +37,9 @@ impl Table {
     /// The steps of a chain from a pointer's type.
     pub fn lower_chain(&self, op: Op, ptr: u32, indices: &[Index]) -> Result<Vec<Step>, Refusal> {
         let indices: Vec<u8> = indices.iter().flat_map(|i| i.bytes()).collect();
-        let mut steps = [[0; STEP_BYTES]; MOST_STEPS];
-        let count = calls::lower_chain(&self.words, op as u32, ptr, &indices, steps.as_flattened_mut())?;
-        Ok(steps[..count].iter().map(Step::of).collect())
+        let mut steps = [QPtrChainStep::default(); MOST_STEPS];
+        let count = calls::lower_chain_steps(&self.words, op as u32, ptr, &indices, &mut steps)?;
+        Ok(steps[..count].iter().copied().map(Step::from).collect())
     }
 
     /// The layout of a type.
