@@ -2,7 +2,7 @@
 //! intact, and all of it after a number. QPTR_ROUNDS says how many of each; their shares are seen with `--nocapture`.
 mod common;
 use common::*;
-use qptr::{calls, Table, MOST_MEMBERS, MOST_STEPS, STEP_BYTES, TABLE_WORDS};
+use qptr::{calls, QPtrChainStep, Step, Table, MOST_MEMBERS, MOST_STEPS, STEP_BYTES, TABLE_WORDS};
 
 fn rounds() -> usize {
     std::env::var("QPTR_ROUNDS").map_or(20_000, |n| n.parse().expect("QPTR_ROUNDS is a number"))
@@ -187,13 +187,19 @@ fn index_bytes(numbers: &mut Numbers, indices: &[(u32, u32)]) -> Guarded<u8> {
     Guarded::of(&bytes, BYTES[0])
 }
 
+/// A chain over a table: its op, its pointer, its indices.
+fn chain(numbers: &mut Numbers, asked: &Asked) -> (Guarded<u32>, u32, u32, Guarded<u8>) {
+    let fields = 2 + numbers.below(5);
+    let (table, question) = (asked.table(numbers), asked.question(numbers, b'C', fields));
+    let op = if numbers.one_in(2) { question[0].1 } else { [65, 66, 67, 70][numbers.below(4)] };
+    let (ptr, indices) = (question[1].1, index_bytes(numbers, &question[2..]));
+    (table, op, ptr, indices)
+}
+
 #[test]
 fn lower_chain() {
     over_tables(b'C', "qptr_lower_chain", |numbers, asked| {
-        let fields = 2 + numbers.below(5);
-        let (table, question) = (asked.table(numbers), asked.question(numbers, b'C', fields));
-        let op = if numbers.one_in(2) { question[0].1 } else { [65, 66, 67, 70][numbers.below(4)] };
-        let (ptr, indices) = (question[1].1, index_bytes(numbers, &question[2..]));
+        let (table, op, ptr, indices) = chain(numbers, asked);
         let room = room(numbers, STEP_BYTES * MOST_STEPS, 60);
         let answer = full(room, BYTES, &|steps| {
             calls::lower_chain(table.list(), op, ptr, indices.list(), steps).map(|n| STEP_BYTES * n)
@@ -201,6 +207,24 @@ fn lower_chain() {
         table.kept(0);
         indices.kept(0);
         answer.map(|steps| steps.len())
+    });
+}
+
+/// The records are the steps of the bytes, and refused as they are.
+#[test]
+fn lower_chain_steps() {
+    let fills = WORDS.map(|w| QPtrChainStep { op: w, bytes: w as i32, stride: w, length: w, index_kind: w, index: w });
+    over_tables(b'C', "qptr_lower_chain_steps", |numbers, asked| {
+        let (table, op, ptr, indices) = chain(numbers, asked);
+        let room = room(numbers, MOST_STEPS, 3);
+        let answer = full(room, fills, &|steps| calls::lower_chain_steps(table.list(), op, ptr, indices.list(), steps));
+        table.kept(0);
+        indices.kept(0);
+        let mut bytes = vec![[0; STEP_BYTES]; room];
+        let same = calls::lower_chain(table.list(), op, ptr, indices.list(), bytes.as_flattened_mut());
+        let steps: Result<Vec<Step>, u32> = same.map(|n| bytes[..n].iter().map(Step::from_bytes).collect()).map_err(|e| e.number());
+        assert_eq!(answer.clone().map(|records| records.into_iter().map(Step::from).collect()), steps);
+        answer.map(|records| records.len())
     });
 }
 
