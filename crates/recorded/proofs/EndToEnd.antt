@@ -21,7 +21,7 @@ use Rattle.flat.proofs.Parts.{Read, was-read}
 use Rattle.tabled.specs.declared.OpReading.the-variants.{Op}
 use Rattle.tabled.specs.Chains.{opOf, chainIn, roomIn, Lowered}
 use Rattle.tabled.proofs.Laws.{steps-size}
-use Rattle.tabled.proofs.EndToEnd.{in-sheet, kept-steps}
+use Rattle.tabled.proofs.EndToEnd.{in-sheet, kept-steps, chain-above}
 use Rattle.recorded.specs.declared.QPtrChainStep.{QPtrChainStep}
 use Rattle.recorded.specs.Records.{recordOf, stepOf, countOf, recordsOver, Recorded}
 use Rattle.recorded.specs.EndToEnd.{Calls, KeptRecords, EndToEnd, numberOf, Same, SameSteps}
@@ -38,9 +38,9 @@ all-back (s ∷ ss) = ap (λ (t : QPtrOp). t ∷ map stepOf (map recordOf ss)) (
 
 -- ---- end to end
 
--- minus a number is not above 0
-not-above : (e n : ℕ) → 0 < n → negℤ (pos e) ≡ pos n → ⊥
-not-above zero n h g = let z : _≡_ {A = ℕ} 0 n = cc in omega (arith, z, h)
+-- minus a number above 0 is no count
+not-above : (e n : ℕ) → 0 < e → negℤ (pos e) ≡ pos n → ⊥
+not-above zero n h g = absurd (omega (arith, h))
 not-above (suc e) n h g = let z : _≡_ {A = ℕ} 0 1 = cc in omega arith
 
 module _ (input : List ℕ) (op ptr : ℕ) (chain : List ℕ) (c : Calls input op ptr chain) where
@@ -51,11 +51,11 @@ module _ (input : List ℕ) (op ptr : ℕ) (chain : List ℕ) (c : Calls input o
       → Recorded (chainInRoom (length (c .old)) (r .sheet) o ptr is) (c .answer) (c .old) (c .new)
   answered o is eo ei few = subst (λ (x : Result (List QPtrOp)). Recorded x (c .answer) (c .old) (c .new)) (in-sheet r op ptr chain (length (c .old)) o is eo ei few) (c .lowered)
 
-  kept : (count : ℕ) → 0 < count → c .answer ≡ pos count → KeptRecords (r .sheet) op ptr chain (c .new) count
-  kept count above e = by (chainIn (length (c .old)) (c .table) op ptr chain) refl (sym e ∙ c .lowered .says) (c .lowered .holds)
+  kept : (count : ℕ) → c .answer ≡ pos count → KeptRecords (r .sheet) op ptr chain (c .new) count
+  kept count e = by (chainIn (length (c .old)) (c .table) op ptr chain) refl (sym e ∙ c .lowered .says) (c .lowered .holds)
     where
       by : (x : Result (List QPtrOp)) → chainIn (length (c .old)) (c .table) op ptr chain ≡ x → pos count ≡ countOf x → c .new ≡ recordsOver (stepsOf x) (c .old) → KeptRecords (r .sheet) op ptr chain (c .new) count
-      by (refused m) i h k = absurd (not-above m count above (sym h))
+      by (refused m) i h k = absurd (not-above m count (chain-above r ptr (length (c .old)) op chain .only m i) (sym h))
       by (ok steps) i h k =
           let many : length steps ≡ count = cc in
           let front : take count (c .new) ≡ map recordOf steps = ap (take count) k ∙ taken steps (c .old) count many in
@@ -67,13 +67,12 @@ module _ (input : List ℕ) (op ptr : ℕ) (chain : List ℕ) (c : Calls input o
             kept = kept-steps r op ptr chain (length (c .old)) steps i;
           }
 
-  untouched : ((count : ℕ) → 0 < count → c .answer ≡ pos count → ⊥) → c .new ≡ c .old
+  untouched : ((count : ℕ) → c .answer ≡ pos count → ⊥) → c .new ≡ c .old
   untouched none = by (chainIn (length (c .old)) (c .table) op ptr chain) (c .lowered .says) (c .lowered .holds)
     where
       by : (x : Result (List QPtrOp)) → c .answer ≡ countOf x → c .new ≡ recordsOver (stepsOf x) (c .old) → c .new ≡ c .old
       by (refused m) h k = k
-      by (ok []) h k = k
-      by (ok (s ∷ ss)) h k = absurd (none (length (s ∷ ss)) (omega arith) h)
+      by (ok steps) h k = absurd (none (length steps) h)
 
 pub end-to-end : EndToEnd
 end-to-end input op ptr chain c = record {

@@ -1,5 +1,5 @@
 -- Document 01, the third demand, from a sheet's bytes to a lent list of step records, through one table: `end-to-end`; and that the records are the steps that the bytes of `lower_chain` hold: `same-steps`.
-use Prim.Native.Nat.{ℕ, _*_, _<_, _≤_}
+use Prim.Native.Nat.{ℕ, _*_, _≤_}
 use mathlib.Core.Path.{_≡_}
 use mathlib.Core.List.{List, map}
 use lib.IntN.{ℤ, pos, negℤ}
@@ -45,15 +45,15 @@ pub record KeptRecords (s : Sheet) (op ptr : ℕ) (chain : List ℕ) (records : 
   pub kept : KeptSteps s op ptr chain steps
 
 -- the answer and the records are those of document 01's C for the sheet that the bytes are, in the room that the caller lends; where the answer is
--- above 0, that many records stand there, and they keep demand 3; else nothing was written
+-- a count, that many records stand there, and they keep demand 3; else nothing was written
 pub record Carried (input : List ℕ) (op ptr : ℕ) (chain : List ℕ) (c : Calls input op ptr chain) : Type 0 where
   pub sheet : Sheet
   pub is-sheet : readSheet input ≡ ok sheet
   pub types : c .n ≡ length (sheet .types)
   pub answered : (o : ChainOp) (is : List Index) → opOf op ≡ Op o → indicesOf chain ≡ ok is → length is ≤ max-indices
       → Recorded (chainInRoom (length (c .old)) sheet o ptr is) (c .answer) (c .old) (c .new)
-  pub kept : (count : ℕ) → 0 < count → c .answer ≡ pos count → KeptRecords sheet op ptr chain (c .new) count
-  pub untouched : ((count : ℕ) → 0 < count → c .answer ≡ pos count → ⊥) → c .new ≡ c .old
+  pub kept : (count : ℕ) → c .answer ≡ pos count → KeptRecords sheet op ptr chain (c .new) count
+  pub untouched : ((count : ℕ) → c .answer ≡ pos count → ⊥) → c .new ≡ c .old
 
 abbrev pub EndToEnd : Type 0
 EndToEnd = (input : List ℕ) (op ptr : ℕ) (chain : List ℕ) (c : Calls input op ptr chain) → Carried input op ptr chain c
