@@ -1,6 +1,7 @@
 -- On a sheet that was read each question is refused only by numbers of the table, and by which is as the table says. Assumes nothing.
 use Prim.Native.Nat.{ℕ, zero, suc, _+_, _<_, _≤_}
 use mathlib.Core.Path.{_≡_, refl, sym, ap, _∙_, subst}
+use mathlib.Core.Bool.{Bool, true, _&&_}
 use mathlib.Core.List.{List, [], _∷_, _++_}
 use mathlib.Core.Logic.{_⊎_, inl, inr, ⊎-elim}
 use mathlib.Core.Option.{Option, none, some}
@@ -8,9 +9,9 @@ use native.Mathlib.Decide.{decLe}
 use native.Mathlib.Omega.{arith}
 use lib.Dec.{ltb}
 use lib.ListN.{length, getElem?}
-use borrow.Author.Tests.{lt-ltb}
+use borrow.Author.Tests.{lt-ltb, ltb-true}
 use Rattle.arith.specs.Refusals.{Result, ok, refused, refuse_unless_, misread}
-use Rattle.arith.proofs.Results.{never, value-is, went, no-some, RefusedBy, fine-by, this-by, then-by, and-by, unless-by, when-by, wider-by}
+use Rattle.arith.proofs.Results.{never, value-is, went, no-some, RefusedBy, fine-by, this-by, then-by, and-by, unless-by, when-by, wider-by, first-true, second-true}
 use Rattle.spirv.specs.declared.ChainOp.{ChainOp}
 use Rattle.spirv.specs.declared.ChainOp.the-variants.{AccessChain, InBoundsAccessChain, PtrAccessChain, InBoundsPtrAccessChain}
 use Rattle.spirv.specs.declared.Index.{Index}
@@ -152,6 +153,19 @@ module _ (s : Sheet) (good : GoodSheet s) where
   chain-by op ptr is lt =
       then-by _ _ (pointee-by (Behind walkNumbers) ptr lt (inl refl)) λ t h. then-by _ _ (start-by op t (pointee-lower ptr t h) (layout-behind walkNumbers)) λ l g.
       wider-by (λ n k. other-behind walkNumbers n (in-range 19 5 n (k .0) (omega (arith, k .1)))) (chain-only s is l (start-in s op t l g) Empty)
+
+  -- so none of them is 0
+  pub chain-above-0 : (op : ChainOp) (ptr : ℕ) (is : List Index) → ptr < length (s .types) → RefusedBy (λ n. 0 < n) (lowerChain s op ptr is)
+  chain-above-0 op ptr is lt = wider-by (above (18 ∷ (layoutRefusals ++ walkNumbers)) refl) (chain-by op ptr is lt)
+    where
+      positive : List ℕ → Bool
+      positive [] = true
+      positive (m ∷ ms) = ltb 0 m && positive ms
+
+      above : (ms : List ℕ) → positive ms ≡ true → (n : ℕ) → Has ms n → 0 < n
+      above [] h n g = absurd g
+      above (m ∷ ms) h n (inl e) = subst (λ (k : ℕ). 0 < k) e (ltb-true 0 m (first-true (ltb 0 m) _ h))
+      above (m ∷ ms) h n (inr g) = above ms (second-true (ltb 0 m) (positive ms) h) n g
 
   -- the numbers of L behind its layout's
   abbrev lengthNumbers : List ℕ

@@ -1,5 +1,6 @@
 pub mod Copying
 pub mod Element
+pub mod EndToEnd
 pub mod Elems
 pub mod Laws
 pub mod Lists

@@ -1,5 +1,5 @@
 -- From a sheet's bytes to the bytes of the steps. Assumes nothing.
-use Prim.Native.Nat.{ℕ, suc, _+_, _*_, _≤_, min}
+use Prim.Native.Nat.{ℕ, suc, _+_, _*_, _≤_, _<_, min}
 use native.Mathlib.Omega.{arith}
 use mathlib.Core.Path.{_≡_, refl, sym, ap, _∙_}
 use mathlib.Core.Bool.{Bool, true, false}
@@ -8,8 +8,8 @@ use lib.Dec.{leb, ltb}
 use lib.ListN.{length, drop}
 use lib.Seq.{take-at}
 use borrow.Author.Tests.{le-ltb, lt-ltb, ltb-true, ltb-false, leb-true}
-use Rattle.arith.specs.Refusals.{Result, ok, refused, _>>=_, _>>_, refuse_when_, refuse_unless_, inRoom, misread, oversize}
-use Rattle.arith.proofs.Results.{went, passed, value-is}
+use Rattle.arith.specs.Refusals.{Result, ok, refused, _>>=_, _>>_, refuse_when_, refuse_unless_, inRoom, misread, oversize, short-list}
+use Rattle.arith.proofs.Results.{went, passed, value-is, RefusedBy, fine-by, this-by, then-by, and-by, unless-by, when-by}
 use Rattle.spirv.specs.declared.ChainOp.{ChainOp}
 use Rattle.spirv.specs.declared.Index.{Index}
 use Rattle.shapes.specs.declared.LayoutConfig.{LayoutConfig}
@@ -25,7 +25,8 @@ use Rattle.lower.proofs.StepsFit.{steps-fit}
 use Rattle.moves.specs.declared.Walk.the-variants.{Steps}
 use Rattle.moves.specs.Written.{walkOf, stepsOf}
 use Rattle.pointers.specs.OverTables.{pointeeAt}
-use Rattle.wire.specs.Wire.{indicesOf, stepsBytes}
+use Rattle.promise.proofs.Table.{chain-above-0}
+use Rattle.wire.specs.Wire.{formedBytes, indicesOf, stepsBytes}
 use Rattle.wire.proofs.Back.{step-back, indices-fit}
 use Rattle.longest.proofs.Steps.{steps-numbers}
 use Rattle.joined.specs.EndToEnd.{Kept}
@@ -135,6 +136,42 @@ module _ {input table : List ℕ} {n : ℕ} (r : Read input table n) (op ptr : �
         by-bytes = v .here;
         kept = kept-by (r .sheet) (w .value) ptr (v .value) steps lowered;
       }
+
+-- ---- no refusal of such a table is 0
+
+abbrev Above : {A : Type 0} → Result A → Type 0
+Above x = RefusedBy (λ n. 0 < n) x
+
+op-above : (r : OpReading) → Above (opIn r)
+op-above (Op o) = fine-by
+op-above Unknown = this-by (omega arith)
+
+indices-above : (chain : List ℕ) → Above (indicesOf chain)
+unfolding indicesOf
+indices-above chain = and-by _ _ (unless-by misread (formedBytes chain) (omega arith)) fine-by
+
+module _ {input table : List ℕ} {n : ℕ} (r : Read input table n) (ptr room : ℕ) where
+  in-room-above : (x : Result (List QPtrOp)) → Above x → Above (inRoom room length x)
+  unfolding inRoom
+  in-room-above x h = then-by x _ h λ steps e. and-by _ _ (when-by short-list (ltb room (length steps)) (omega arith)) fine-by
+
+  there : ptr < countIn table → ptr < length (r .sheet .types)
+  there h = rw (r .parts .count) at h
+
+  at-above : (o : ChainOp) (is : List Index) → Above (chainAt room table o ptr is)
+  unfolding chainAt chainInRoom _>>_ refuse_unless_ refuse_when_
+  at-above o is = by (ltb ptr (countIn table)) (ltb max-indices (length is)) refl refl
+    where
+      by : (t m : Bool) → ltb ptr (countIn table) ≡ t → ltb max-indices (length is) ≡ m → Above (chainAt room table o ptr is)
+      by false m e f = rw e (this-by (omega arith))
+      by true true e f = rw (e, f) (this-by (omega arith))
+      by true false e f =
+          rw (same-chain r room o ptr is (ltb-false max-indices (length is) f))
+          (in-room-above (lowerChain (r .sheet) o ptr is) (chain-above-0 (r .sheet) (reads-good input (r .sheet) (r .is-sheet)) o ptr is (there (ltb-true ptr (countIn table) e))))
+
+  pub chain-above : (op : ℕ) (chain : List ℕ) → Above (chainIn room table op ptr chain)
+  unfolding chainIn
+  chain-above op chain = then-by (opIn (opOf op)) _ (op-above (opOf op)) λ o e. then-by (indicesOf chain) _ (indices-above chain) λ is f. at-above o is
 
 -- ---- both
 

@@ -9,7 +9,7 @@ use lib.ListN.{length, take, drop, replicate, length-append, length-replicate}
 use lib.Seq.{sets, take-at}
 use borrow.Author.Tests.{eqb-true, le-leb, lt-leb, le-ltb, lt-ltb, ltb-true, ltb-false}
 use Rattle.arith.specs.Refusals.{Result, ok, refused, _>>=_, _>>_, refuse_when_, refuse_unless_, inRoom, misread, oversize, short-list}
-use Rattle.arith.proofs.Results.{went, passed, value-is, not-refused, not-met, first-true}
+use Rattle.arith.proofs.Results.{went, passed, value-is, not-refused, not-met, first-true, in-room}
 use Rattle.spirv.specs.declared.ChainOp.{ChainOp}
 use Rattle.spirv.specs.declared.Index.{Index}
 use Rattle.shapes.specs.declared.LayoutConfig.{LayoutConfig}
@@ -103,11 +103,6 @@ module _ (ks bs ls ms is : List ℕ) where
 
 -- ---- what a walk left in the lists is what it came to
 
-few-in : (room : ℕ) (x y : List QPtrOp) (b : Bool) → ltb room (length x) ≡ b → ((refuse short-list when b) >> ok x) ≡ ok y → length x ≤ room
-unfolding refuse_when_ _>>_
-few-in room x y false e h = ltb-false room (length x) e
-few-in room x y true e h = absurd (let z : _≡_ {A = ℕ} 0 1 = cc in omega arith)
-
 module _ (room : ℕ) (cfg : LayoutConfig) (n : ℕ) (types layouts offsets members : List ℕ) (op : ChainOp) (ptr : ℕ) (chain : List ℕ) where
   -- accepted steps fit, and stay in the room
   pub record Good (steps : List QPtrOp) : Type 0 where
@@ -123,7 +118,7 @@ module _ (room : ℕ) (cfg : LayoutConfig) (n : ℕ) (types layouts offsets memb
       let same : r .value ≡ steps = value-is (passed _ _ (r .rest)) in
       record {
         fit = subst FitSteps same (bytes-fit (answersIn layouts n offsets members) (l .value) (indicesIn chain) (r .value) (l .rest));
-        few = subst (λ (x : List QPtrOp). length x ≤ room) same (few-in room (r .value) steps (ltb room (length (r .value))) refl (r .rest));
+        few = in-room room length _ (passed _ _ (passed _ _ h));
       }
 
   pub held-is : {w : Walk} {ks bs ls ms is ks′ bs′ ls′ ms′ is′ : List ℕ} → Wrote 0 (chainOver room cfg n types layouts offsets members op ptr chain) w ks bs ls ms is ks′ bs′ ls′ ms′ is′
