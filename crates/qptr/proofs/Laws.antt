@@ -1,14 +1,10 @@
 -- Laws of what C gets. Assumes nothing.
-use Prim.Native.Nat.{ℕ, zero, suc, _-_, _≤_, _<_, min}
+use Prim.Native.Nat.{ℕ, _-_, _≤_, _<_, min}
 use native.Mathlib.Omega.{arith}
 use mathlib.Core.Path.{_≡_, refl, sym, ap, _∙_, subst}
-use mathlib.Core.Bool.{Bool, cond}
 use mathlib.Core.List.{List}
-use lib.IntN.{ℤ, pos, negsuc, negℤ, _-ℤ_}
+use lib.IntN.{ℤ}
 use lib.ListN.{length}
-use mir.Syntax.{w64}
-use mir.Val.{SFits}
-use borrow.Author.Tests.{lt-ltb}
 use Rattle.arith.specs.Refusals.{Result, ok, refused}
 use Rattle.arith.proofs.Results.{went, passed, in-room}
 use Rattle.spirv.specs.declared.ChainOp.{ChainOp}
@@ -24,15 +20,6 @@ use Rattle.text.specs.Whole.{Whole, held, answered}
 use Rattle.qptr.specs.Answered.{codeOf, Small, Answered}
 use Rattle.qptr.specs.OverTable.{sheetCode, walkCode, SmallWalk, TableRead, ChainLowered, Got}
 use Rattle.answers.specs.Output.{layOutput}
-
--- 0 less a number
-pub minus : (e : ℕ) → pos 0 -ℤ pos e ≡ negℤ (pos e)
-minus zero = refl
-minus (suc e) = ap (λ (t : Bool). cond t (negsuc (suc e - 1)) (pos (0 - suc e))) (lt-ltb 0 (suc e) (omega arith)) ∙ ap negsuc (omega arith)
-
-pub minus-fits : (e : ℕ) → e < 4294967296 → SFits w64 (negℤ (pos e))
-minus-fits zero h = record { sfits = omega arith }
-minus-fits (suc e) h = record { sfits = omega arith }
 
 pub small : {result : Result (List ℕ)} {old new : List ℕ} {r : Answer} → length old < 9223372036854775808 → Whole result old r new → Small r
 unfolding answered

@@ -16,7 +16,7 @@ fn code(a: Answer) -> i64
 {
     match a {
         Answer::Bytes(n) => n as i64,
-        Answer::Refused(e) => 0 - e as i64,
+        Answer::Refused(e) => recorded::refusal(e),
     }
 }
 
@@ -36,7 +36,7 @@ fn sheet_code(a: SheetAnswer) -> i64
 {
     match a {
         SheetAnswer::Types(n) => n as i64,
-        SheetAnswer::Refused(e) => 0 - e as i64,
+        SheetAnswer::Refused(e) => recorded::refusal(e),
     }
 }
 
@@ -47,7 +47,7 @@ fn walk_code(w: Walk) -> i64
 {
     match w {
         Walk::Steps(n) => n as i64,
-        Walk::Refused(e) => 0 - e as i64,
+        Walk::Refused(e) => recorded::refusal(e),
     }
 }
 

@@ -85,7 +85,7 @@ pub struct Fit {
 }
 
 // Minus the number of a refusal.
-fn refusal(e: u32) -> i64
+pub fn refusal(e: u32) -> i64
     ensures { λ r. ⌜ r ≡ negℤ (pos e) ⌝ }
 {
     0 - e as i64

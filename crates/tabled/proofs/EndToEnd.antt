@@ -17,7 +17,6 @@ use Rattle.sheet.specs.Sheet.{Sheet, max-indices, pointeeIn}
 use Rattle.sheet.specs.Tables.{over}
 use Rattle.sheet.proofs.GoodSheet.{reads-good}
 use Rattle.layout.specs.Arrays.{Answer}
-use Rattle.layout.specs.Layouts.{answerIn}
 use Rattle.components.specs.Found.{answersIn}
 use Rattle.lower.specs.declared.QPtrOp.{QPtrOp}
 use Rattle.lower.specs.Chain.{chainBy, lowerChain, chainInRoom}
@@ -29,7 +28,6 @@ use Rattle.promise.proofs.Table.{chain-above-0}
 use Rattle.wire.specs.Wire.{formedBytes, indicesOf, stepsBytes}
 use Rattle.wire.proofs.Back.{step-back, indices-fit}
 use Rattle.longest.proofs.Steps.{steps-numbers}
-use Rattle.joined.specs.EndToEnd.{Kept}
 use Rattle.joined.proofs.EndToEnd.{kept-by}
 use Rattle.flat.specs.Table.{countIn, settingIn, typesIn, membersIn, placesIn, layoutsIn}
 use Rattle.flat.proofs.Parts.{Read, was-read}

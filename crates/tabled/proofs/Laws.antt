@@ -8,7 +8,7 @@ use lib.Dec.{eqb, ltb}
 use lib.ListN.{length, take, drop, replicate, length-append, length-replicate}
 use lib.Seq.{sets, take-at}
 use borrow.Author.Tests.{eqb-true, le-leb, lt-leb, le-ltb, lt-ltb, ltb-true, ltb-false}
-use Rattle.arith.specs.Refusals.{Result, ok, refused, _>>=_, _>>_, refuse_when_, refuse_unless_, inRoom, misread, oversize, short-list}
+use Rattle.arith.specs.Refusals.{Result, ok, refused, _>>=_, _>>_, refuse_when_, refuse_unless_, inRoom, misread, oversize}
 use Rattle.arith.proofs.Results.{went, passed, value-is, not-refused, not-met, first-true, in-room}
 use Rattle.spirv.specs.declared.ChainOp.{ChainOp}
 use Rattle.spirv.specs.declared.Index.{Index}
@@ -17,7 +17,7 @@ use Rattle.sheet.specs.Sheet.{max-indices}
 use Rattle.sheet.specs.Tables.{over}
 use Rattle.sheet.proofs.Tables.{front}
 use Rattle.text.specs.Printed.{Printed}
-use Rattle.words.specs.Little.{little, wordsOf}
+use Rattle.words.specs.Little.{wordsOf}
 use Rattle.words.proofs.Words.{words-length}
 use Rattle.components.specs.Found.{answersIn}
 use Rattle.lower.specs.declared.QPtrOp.{QPtrOp}
