@@ -4,7 +4,7 @@
 #include <stdio.h>
 #include <string.h>
 
-#ifndef QPTR_CHAIN_STEP /* until qptr.h declares it */
+#ifndef QPTR_STRUCT_BYTES /* until qptr.h declares it */
 typedef struct {
     uint32_t op;
     int32_t bytes;
