@@ -4,15 +4,7 @@
 #include <stdio.h>
 #include <string.h>
 
-#ifndef QPTR_STRUCT_BYTES /* until qptr.h declares it */
-typedef struct {
-    uint32_t op;
-    int32_t bytes;
-    uint32_t stride, length, index_kind, index;
-} QPtrChainStep;
-int64_t qptr_lower_chain_steps(const uint32_t *table, size_t table_len, uint32_t op, uint32_t ptr, const uint8_t *indices, size_t indices_len,
-                               QPtrChainStep *steps, size_t steps_len);
-#endif
+typedef struct qptr_chain_step QPtrChainStep;
 
 static const char sheet[] = "G,1,1,1,1,1,1\nF,32\nV,0,3\nS,0,2,1,0\nR,2,-\nS,1,1,3\nP,12,4\n";
 static uint32_t table[QPTR_TABLE_WORDS];
