@@ -1,7 +1,7 @@
 //! Times chains one by one: `qptr_lower_chain` of libqptr.a over a table that was read once, against the Rust over cached layouts.
 //! host/bench/run builds and starts it; its arguments name sheets.
 //!
-//! Ours: from table, op, pointer's type and index bytes to step bytes in a lent list.
+//! Ours: from table, op, pointer's type and index bytes to step bytes in a lent list; "records": to structs in a lent slice.
 //! Rust: from op, pointer's type and index values (constants interned) to its list of steps: pointee and cached layout looked up, then
 //! `try_lower_access_chain`. "alone" leaves the look-ups out: the layout is at hand. Its steps are dropped within the time.
 //! Nothing is parsed or printed in either, and each answer was compared before.
@@ -21,7 +21,20 @@ unsafe extern "C" {
         steps: *mut u8,
         steps_len: usize,
     ) -> i64;
+    fn qptr_lower_chain_steps(
+        table: *const u32,
+        table_len: usize,
+        op: u32,
+        ptr: u32,
+        indices: *const u8,
+        indices_len: usize,
+        steps: *mut Record,
+        steps_len: usize,
+    ) -> i64;
 }
+
+/// QPtrChainStep: op, bytes, stride, length, index kind, index.
+type Record = [u32; 6];
 
 const TABLE_WORDS: usize = 7175;
 const REPETITIONS: usize = 40;
@@ -46,6 +59,11 @@ fn read(sheet: &[u8], table: &mut [u32]) -> i64 {
 fn lower(table: &[u32], c: &Ours, steps: &mut [u8]) -> i64 {
     let (at, len) = (c.indices.as_ptr(), c.indices.len());
     unsafe { qptr_lower_chain(table.as_ptr(), table.len(), c.op, c.ptr, at, len, steps.as_mut_ptr(), steps.len()) }
+}
+
+fn lower_records(table: &[u32], c: &Ours, steps: &mut [Record]) -> i64 {
+    let (at, len) = (c.indices.as_ptr(), c.indices.len());
+    unsafe { qptr_lower_chain_steps(table.as_ptr(), table.len(), c.op, c.ptr, at, len, steps.as_mut_ptr(), steps.len()) }
 }
 
 /// The answer line of document 01.
@@ -97,14 +115,20 @@ fn least<const N: usize>(mut all: [&mut dyn FnMut(); N]) -> [f64; N] {
     times
 }
 
-/// ns a chain: ours, Rust, Rust alone.
-fn per_chain(table: &[u32], laid: &LaidOut<'_>, chains: &[Chain]) -> [f64; 3] {
+/// ns a chain: ours, by records, Rust, Rust alone.
+fn per_chain(table: &[u32], laid: &LaidOut<'_>, chains: &[Chain]) -> [f64; 4] {
     let mut steps = vec![0; 20 * 256];
+    let mut records = vec![[0; 6]; 256];
     same(table, chains, &mut steps);
     let lowered: Vec<Ours> = chains.iter().map(ours).collect();
     let mut by_us = || {
         for c in &lowered {
             black_box(lower(table, black_box(c), &mut steps));
+        }
+    };
+    let mut by_records = || {
+        for c in &lowered {
+            black_box(lower_records(table, black_box(c), &mut records));
         }
     };
     let mut by_rust = || {
@@ -117,12 +141,12 @@ fn per_chain(table: &[u32], laid: &LaidOut<'_>, chains: &[Chain]) -> [f64; 3] {
             black_box(laid.lower_alone(black_box(c)));
         }
     };
-    least([&mut by_us, &mut by_rust, &mut alone])
+    least([&mut by_us, &mut by_records, &mut by_rust, &mut alone])
         .map(|ns| ns / chains.len() as f64)
 }
 
-fn row(name: &str, [ours, rust, alone]: [f64; 3]) {
-    println!("{name:42} {ours:10.1} {rust:10.1} {alone:10.1} {:8.3} {:8.3}", ours / rust, ours / alone);
+fn row(name: &str, [ours, records, rust, alone]: [f64; 4]) {
+    println!("{name:42} {ours:10.1} {records:10.1} {rust:10.1} {alone:10.1} {:8.3} {:8.3} {:8.3}", ours / rust, ours / alone, records / ours);
 }
 
 // ---- sheets
@@ -210,7 +234,7 @@ fn whole(sheets: &[Vec<u8>], chains: usize) -> [[f64; 2]; 2] {
 
 fn main() {
     oracle::note_panics();
-    println!("{:42} {:>10} {:>10} {:>10} {:>8} {:>8}", "ns a chain", "ours", "Rust", "alone", "ratio", "to alone");
+    println!("{:42} {:>10} {:>10} {:>10} {:>10} {:>8} {:>8} {:>8}", "ns a chain", "ours", "records", "Rust", "alone", "ratio", "to alone", "records");
     for (indices, counts) in [(2, &[10, 100, 250][..]), (8, &[10, 100, 250]), (64, &[100, 250]), (255, &[256])] {
         for &types in counts {
             for unknown in [false, true] {
@@ -224,13 +248,13 @@ fn main() {
         }
     }
     let sheets: Vec<Vec<u8>> = std::env::args().skip(1).map(|path| std::fs::read(path).expect("a sheet")).collect();
-    let mut sums = [0.0; 3];
+    let mut sums = [0.0; 4];
     let mut count = 0;
     for sheet in &sheets {
         with(sheet, |table, laid, chains| {
             if !chains.is_empty() {
                 let times = per_chain(table, laid, chains);
-                (0..3).for_each(|i| sums[i] += times[i] * chains.len() as f64);
+                (0..4).for_each(|i| sums[i] += times[i] * chains.len() as f64);
                 count += chains.len();
             }
         });
