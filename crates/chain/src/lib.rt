@@ -1,138 +1,88 @@
 // Chains lowered over tables of layouts: a struct part and an array part hand the walk to each other (try_lower_access_chain of lower.rs).
 use lower::Pending;
 use lower::QPtrOp;
-use moves::Hop;
 use moves::Move;
 use moves::Walk;
+use places::Place;
 use shapes::TypeLayout;
 ghost use mathlib.Core.Path.{_≡_};
-ghost use Prim.Native.Nat.{_≤_};
+ghost use mathlib.Core.List.{[], _∷_};
+ghost use Prim.Native.Nat.{_+_};
 ghost use lib.ListN.{length};
-ghost use Rattle.moves.specs.Moves.{indicesIn};
-ghost use Rattle.moves.specs.Written.{Wrote, inRoomBehind};
-ghost use Rattle.chain.specs.Chains.{Few, weight, chainFrom, fieldFrom, chainOf, roomOf};
+ghost use Rattle.lower.specs.Steps.{flush};
+ghost use Rattle.moves.specs.Written.{Wrote, before, inRoomBehind};
+ghost use Rattle.chain.specs.Chains.{Within, Few, Ran, onFrom, chainOf, roomOf};
 
-// The array part: the steps of the indices left, from a layout on. It hands a struct to the struct part.
-fn array_part(
+// How far a walk gets without a step: it is refused; it ends, this offset waiting; or it gives a step behind what waits, and goes on from there.
+pub enum Run {
+    Refused(u32),
+    Ended(Pending),
+    Gives {
+        at: usize,
+        place: Place,
+        waiting: Pending,
+        step: QPtrOp,
+    },
+}
+
+// From a place on, fields and constant elements are no more than offsets that wait.
+fn go_on(
     layouts: &[u32],
     types: u32,
     offsets: &[u32],
     members: &[u32],
     chain: &[u32],
-    l: TypeLayout,
+    from: usize,
+    l: Place,
     p: Pending,
-    n: usize,
-    room: usize,
-    kinds: &mut [u32],
-    bytes: &mut [u32],
-    bounds: &mut [u32],
-    marks: &mut [u32],
-    indices: &mut [u32],
-) -> Walk
-    requires { ⌜ Few n (length (now chain)) (weight l) ⌝ }
-    ensures { λ r. ⌜ Wrote n (inRoomBehind room n (chainFrom (now (layouts .entry)) (now (offsets .entry)) (now (members .entry)) types l p (indicesIn (now (chain .entry))))) r (now (kinds .entry)) (now (bytes .entry)) (now (bounds .entry)) (now (marks .entry)) (now (indices .entry)) (now (kinds .exit)) (now (bytes .exit)) (now (bounds .exit)) (now (marks .exit)) (now (indices .exit)) ⌝ }
+) -> Run
+    requires { ⌜ Within from (length (now chain)) ⌝ }
+    ensures { λ r. ⌜ Ran (now (layouts .entry)) (now (offsets .entry)) (now (members .entry)) types (now (chain .entry)) from l p r ⌝ }
 {
-    if chain.len() < 2 {
-        return moves::finish(p, n, room, kinds, bytes, bounds, marks, indices);
-    }
-    let i = moves::index_of(chain[0], chain[1]);
-    match moves::next_move(layouts, types, l, i, p) {
-        Move::Reject(e) => Walk::Refused(e),
-        Move::Onward(u, q) => array_part(
-            layouts,
-            types,
-            offsets,
-            members,
-            &chain[2..],
-            u,
-            q,
-            n,
-            room,
-            kinds,
-            bytes,
-            bounds,
-            marks,
-            indices,
-        ),
-        Move::Emit(u, s) => {
-            let next = moves::after(p, n) + 1;
-            let r = array_part(
-                layouts,
-                types,
-                offsets,
-                members,
-                &chain[2..],
-                u,
-                Pending::Empty,
-                next,
-                room,
-                kinds,
-                bytes,
-                bounds,
-                marks,
-                indices,
-            );
-            moves::prefix(r, p, s, n, kinds, bytes, bounds, marks, indices)
-        }
-        Move::Inside { start, count } => struct_part(
-            layouts,
-            types,
-            offsets,
-            members,
-            chain,
-            start,
-            count,
-            p,
-            n,
-            room,
-            kinds,
-            bytes,
-            bounds,
-            marks,
-            indices,
-        ),
-        Move::Enter(m) => {
-            let next = moves::after(p, n) + 1;
-            let r = array_part(
-                layouts,
-                types,
-                offsets,
-                members,
-                chain,
-                TypeLayout::Concrete(m),
-                Pending::Empty,
-                next,
-                room,
-                kinds,
-                bytes,
-                bounds,
-                marks,
-                indices,
-            );
-            moves::prefix(
-                r,
-                p,
-                QPtrOp::BufferData,
-                n,
-                kinds,
-                bytes,
-                bounds,
-                marks,
-                indices,
-            )
+    let mut at = from;
+    let mut u = l;
+    let mut q = p;
+    while at + 2 <= chain.len() {
+        let i = moves::index_of(chain[at], chain[at + 1]);
+        match moves::next_move(layouts, types, offsets, members, u, i, q) {
+            Move::Reject(e) => {
+                return Run::Refused(e);
+            }
+            Move::Onward(v, w) => {
+                u = v;
+                q = w;
+                at += 2;
+            }
+            Move::Emit(v, s) => {
+                return Run::Gives {
+                    at: at + 2,
+                    place: v,
+                    waiting: q,
+                    step: s,
+                };
+            }
+            Move::Inside(c) => {
+                return Run::Gives {
+                    at,
+                    place: Place::Memory(c),
+                    waiting: q,
+                    step: QPtrOp::BufferData,
+                };
+            }
         }
     }
+    Run::Ended(q)
 }
 
-// The struct part: a field, and then the array part on the indices left.
+// The struct part: fields, and elements at constant places, which are as fields are. It hands an index that gives a step to the array part.
 fn struct_part(
     layouts: &[u32],
     types: u32,
     offsets: &[u32],
     members: &[u32],
     chain: &[u32],
-    start: u32,
-    count: u32,
+    from: usize,
+    l: Place,
     p: Pending,
     n: usize,
     room: usize,
@@ -142,22 +92,27 @@ fn struct_part(
     marks: &mut [u32],
     indices: &mut [u32],
 ) -> Walk
-    requires { ⌜ (2 ≤ length (now chain)) × Few n (length (now chain)) 0 ⌝ }
-    ensures { λ r. ⌜ Wrote n (inRoomBehind room n (fieldFrom (now (layouts .entry)) (now (offsets .entry)) (now (members .entry)) types start count p (now (chain .entry)))) r (now (kinds .entry)) (now (bytes .entry)) (now (bounds .entry)) (now (marks .entry)) (now (indices .entry)) (now (kinds .exit)) (now (bytes .exit)) (now (bounds .exit)) (now (marks .exit)) (now (indices .exit)) ⌝ }
+    requires { ⌜ Within from (length (now chain)) × Few n (length (now chain)) from l ⌝ }
+    ensures { λ r. ⌜ Wrote n (inRoomBehind room n (onFrom (now (layouts .entry)) (now (offsets .entry)) (now (members .entry)) types (now (chain .entry)) from l p)) r (now (kinds .entry)) (now (bytes .entry)) (now (bounds .entry)) (now (marks .entry)) (now (indices .entry)) (now (kinds .exit)) (now (bytes .exit)) (now (bounds .exit)) (now (marks .exit)) (now (indices .exit)) ⌝ }
 {
-    let i = moves::index_of(chain[0], chain[1]);
-    let os = shapes::rows::span(offsets, start, count);
-    let ts = shapes::rows::span(members, start, count);
-    match moves::next_field(layouts, types, os, ts, i, p) {
-        Hop::Refuse(e) => Walk::Refused(e),
-        Hop::Go(u, q) => array_part(
+    match go_on(layouts, types, offsets, members, chain, from, l, p) {
+        Run::Refused(e) => Walk::Refused(e),
+        Run::Ended(q) => moves::finish(q, n, room, kinds, bytes, bounds, marks, indices),
+        Run::Gives {
+            at,
+            place,
+            waiting,
+            step,
+        } => array_part(
             layouts,
             types,
             offsets,
             members,
-            &chain[2..],
-            u,
-            q,
+            chain,
+            at,
+            place,
+            waiting,
+            step,
             n,
             room,
             kinds,
@@ -167,6 +122,49 @@ fn struct_part(
             indices,
         ),
     }
+}
+
+// The array part: what waits and a step, stored once the struct part has answered for the indices left.
+fn array_part(
+    layouts: &[u32],
+    types: u32,
+    offsets: &[u32],
+    members: &[u32],
+    chain: &[u32],
+    at: usize,
+    l: Place,
+    p: Pending,
+    s: QPtrOp,
+    n: usize,
+    room: usize,
+    kinds: &mut [u32],
+    bytes: &mut [u32],
+    bounds: &mut [u32],
+    marks: &mut [u32],
+    indices: &mut [u32],
+) -> Walk
+    requires { ⌜ Within at (length (now chain)) × Few (n + 2) (length (now chain)) at l ⌝ }
+    ensures { λ r. ⌜ Wrote n (inRoomBehind room n (before (flush p (s ∷ [])) (onFrom (now (layouts .entry)) (now (offsets .entry)) (now (members .entry)) types (now (chain .entry)) at l Pending.Empty))) r (now (kinds .entry)) (now (bytes .entry)) (now (bounds .entry)) (now (marks .entry)) (now (indices .entry)) (now (kinds .exit)) (now (bytes .exit)) (now (bounds .exit)) (now (marks .exit)) (now (indices .exit)) ⌝ }
+{
+    let next = moves::after(p, n) + 1;
+    let r = struct_part(
+        layouts,
+        types,
+        offsets,
+        members,
+        chain,
+        at,
+        l,
+        Pending::Empty,
+        next,
+        room,
+        kinds,
+        bytes,
+        bounds,
+        marks,
+        indices,
+    );
+    moves::prefix(r, p, s, n, kinds, bytes, bounds, marks, indices)
 }
 
 // A chain of at most 255 indices, each two words, from a layout on: its steps in the five lists, or the refusal and the lists as they were.
@@ -190,13 +188,15 @@ pub fn lower_from(
     }
     let most = arith::smaller(bounds.len(), arith::smaller(marks.len(), indices.len()));
     let room = arith::smaller(kinds.len(), arith::smaller(bytes.len(), most));
-    array_part(
+    let place = places::place_of(l);
+    struct_part(
         layouts,
         types,
         offsets,
         members,
         chain,
-        l,
+        0,
+        place,
         Pending::Empty,
         0,
         room,

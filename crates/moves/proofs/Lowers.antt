@@ -12,24 +12,28 @@ use Rattle.spirv.specs.declared.Index.{Index}
 use Rattle.spirv.specs.declared.Index.the-variants.{Known, Unknown}
 use Rattle.shapes.specs.declared.Components.{Components}
 use Rattle.shapes.specs.declared.Components.the-variants.{Scalar, Elements, Fields}
-use Rattle.shapes.specs.declared.Handle.the-variants.{Opaque, Buffer}
+use Rattle.shapes.specs.declared.Handle.the-variants as handle
 use Rattle.shapes.specs.declared.TypeLayout.{TypeLayout}
 use Rattle.shapes.specs.declared.TypeLayout.the-variants as layout
 use Rattle.shapes.specs.declared.Answer.{Answer}
 use Rattle.shapes.specs.declared.Answer.the-variants.{Laid, Refused}
 use Rattle.shapes.specs.Shapes as def
 use Rattle.shapes.specs.Spans.{spanOf, spansOf, partsBy, layoutBy, answerBy}
+use Rattle.places.specs.declared.Place.{Place}
+use Rattle.places.specs.declared.Place.the-variants.{Memory, Buffer, Buffers, Opaque, Opaques}
+use Rattle.places.specs.Places.{placeOf, foundOf, layoutAt}
 use Rattle.lower.specs.declared.QPtrOp.{QPtrOp}
 use Rattle.lower.specs.declared.QPtrOp.the-variants.{HandleArrayIndex, BufferData, DynOffset}
 use Rattle.lower.specs.declared.Pending.{Pending}
 use Rattle.lower.specs.declared.Pending.the-variants.{Empty, Waiting}
 use Rattle.lower.specs.Steps.{flush, merged, Field, fieldOf, boundOf, constantOffset, byConstant, toField, toElement, toPart, Move, move, lowerFrom}
-use Rattle.moves.specs.declared.Hop.{Hop}
-use Rattle.moves.specs.declared.Hop.the-variants.{Refuse, Go}
+use Rattle.moves.specs.declared.By.the-variants as by
+use Rattle.moves.specs.declared.Way.{Way}
+use Rattle.moves.specs.declared.Way.the-variants.{Stop, Part, Give, Enter}
 use Rattle.moves.specs.declared.Move.the-variants as code
 use Rattle.moves.specs.declared.Move.{Move as CodeMove}
 use Rattle.moves.specs.Moves as moves
-use Rattle.moves.proofs.Writes.{before}
+use Rattle.moves.specs.Written.{before}
 
 module _ (answers : ℕ → Answer) (offsets members : List ℕ) where
   -- as the definitions have them
@@ -43,18 +47,26 @@ module _ (answers : ℕ → Answer) (offsets members : List ℕ) where
   abbrev pub From : TypeLayout → Pending → List Index → Result (List QPtrOp)
   From l p is = lowerFrom seen (Seen l) p is
 
-  -- what a field leads to
-  abbrev pub followHop : Hop → List Index → Result (List QPtrOp)
-  followHop (Refuse e) is = refused e
-  followHop (Go u q) is = From u q is
+  -- the steps from a place on
+  abbrev pub Here : Place → Pending → List Index → Result (List QPtrOp)
+  Here u p is = From (layoutAt u) p is
 
   -- what a move leads to
   abbrev pub follow : CodeMove → Index → Pending → List Index → Result (List QPtrOp)
   follow (code.Reject e) i p is = refused e
-  follow (code.Onward u q) i p is = From u q is
-  follow (code.Emit u s) i p is = before (flush p (s ∷ [])) (From u Empty is)
-  follow (code.Inside start count) i p is = followHop (moves.hopOf answers (spanOf offsets start count) (spanOf members start count) i p) is
-  follow (code.Enter m) i p is = before (flush p (BufferData ∷ [])) (From (layout.Concrete m) Empty (i ∷ is))
+  follow (code.Onward u q) i p is = Here u q is
+  follow (code.Emit u s) i p is = before (flush p (s ∷ [])) (Here u Empty is)
+  follow (code.Inside c) i p is = before (flush p (BufferData ∷ [])) (Here (Memory c) Empty (i ∷ is))
+
+  -- a layout leads where its place does
+  pub as-placed : (l : TypeLayout) (p : Pending) (is : List Index) → From l p is ≡ Here (placeOf l) p is
+  unfolding lowerFrom move _>>=_
+  as-placed l p [] = refl
+  as-placed (layout.Handle handle.Opaque) p (i ∷ is) = refl
+  as-placed (layout.Handle (handle.Buffer m)) p (i ∷ is) = refl
+  as-placed (layout.HandleArray handle.Opaque n) p (i ∷ is) = refl
+  as-placed (layout.HandleArray (handle.Buffer m) n) p (i ∷ is) = rw (as-placed (layout.Handle (handle.Buffer m)) Empty is)
+  as-placed (layout.Concrete m) p (i ∷ is) = refl
 
   -- ---- the rest of a chain behind a move
 
@@ -75,54 +87,57 @@ module _ (answers : ℕ → Answer) (offsets members : List ℕ) where
   -- ---- elements
 
   on-merged : (r : Result Pending) (u : TypeLayout) (i : Index) (p : Pending) (is : List Index)
-      → on (r >>= λ q. ok record { steps = []; pending = q; layout = Seen u }) is ≡ follow (moves.onward u r) i p is
+      → on (r >>= λ q. ok record { steps = []; pending = q; layout = Seen u }) is ≡ follow (moves.onward (placeOf u) r) i p is
   unfolding _>>=_
-  on-merged (ok q) u i p is = none-before (From u q is)
+  on-merged (ok q) u i p is = none-before (From u q is) ∙ as-placed u q is
   on-merged (refused e) u i p is = refl
 
   on-constant : (c : Option ℤ) (d : QPtrOp) (u : TypeLayout) (i : Index) (p : Pending) (is : List Index)
-      → on (byConstant c d p (Seen u)) is ≡ follow (moves.byConstant u d p c) i p is
+      → on (byConstant c d p (Seen u)) is ≡ follow (moves.byConstant (placeOf u) d p c) i p is
   unfolding byConstant _>>=_
   on-constant (some z) d u i p is = on-merged (merged p z) u i p is
-  on-constant none d u i p is = some-before (flush p (d ∷ [])) (From u Empty is)
+  on-constant none d u i p is = some-before (flush p (d ∷ [])) (From u Empty is) ∙ ap (before (flush p (d ∷ []))) (as-placed u Empty is)
 
   on-element : (a : Answer) (stride len : ℕ) (i : Index) (p : Pending) (is : List Index)
-      → on (answerBy (spansOf offsets members) a >>= λ l. byConstant (constantOffset stride len i) (DynOffset stride (boundOf len) i) p l) is ≡ follow (moves.toElement stride len i p a) i p is
+      → on (answerBy (spansOf offsets members) a >>= λ l. byConstant (constantOffset stride len i) (DynOffset stride (boundOf len) i) p l) is
+      ≡ follow (moves.arrived (by.Element stride len) i p (foundOf a)) i p is
   unfolding _>>=_
   on-element (Laid u) stride len i p is = on-constant (constantOffset stride len i) _ u i p is
   on-element (Refused e) stride len i p is = refl
 
   -- ---- fields
 
-  on-field : (os ts : List ℕ) (i : Index) (p : Pending) (is : List Index) → on (toField seen os ts i p) is ≡ followHop (moves.hopOf answers os ts i p) is
-  unfolding toField moves.hopOf moves.fieldHop _>>=_ _>>_ refuse_unless_
+  on-field : (os ts : List ℕ) (i : Index) (p : Pending) (is : List Index) → on (toField seen os ts i p) is ≡ follow (moves.moveBy answers i p (moves.fieldWay os ts i p)) i p is
+  unfolding toField moves.fieldWay moves.fieldBy _>>=_ _>>_ refuse_unless_
   on-field os ts (Unknown v) p is = refl
-  on-field os ts (Known w) p is = by (fieldOf os ts (signed w))
+  on-field os ts (Known w) p is = for (fieldOf os ts (signed w))
     where
-      by-answer : (a : Answer) (q : Pending) → on (answerBy (spansOf offsets members) a >>= λ l. ok record { steps = []; pending = q; layout = l }) is ≡ followHop (moves.hopTo a q) is
-      by-answer (Laid u) q = none-before (From u q is)
-      by-answer (Refused e) q = refl
+      for-answer : (a : Answer) (q : Pending)
+          → on (answerBy (spansOf offsets members) a >>= λ l. ok record { steps = []; pending = q; layout = l }) is ≡ follow (moves.arrived (by.Field q) (Known w) p (foundOf a)) (Known w) p is
+      for-answer (Laid u) q = none-before (From u q is) ∙ as-placed u q is
+      for-answer (Refused e) q = refl
 
-      by-merged : (t : ℕ) (r : Result Pending)
-          → on (r >>= λ q. seen t >>= λ l. ok record { steps = []; pending = q; layout = l }) is ≡ followHop (moves.hopBy (answers t) r) is
-      by-merged t (ok q) = by-answer (answers t) q
-      by-merged t (refused e) = refl
+      for-merged : (t : ℕ) (r : Result Pending)
+          → on (r >>= λ q. seen t >>= λ l. ok record { steps = []; pending = q; layout = l }) is ≡ follow (moves.moveBy answers (Known w) p (moves.byOffset t r)) (Known w) p is
+      for-merged t (ok q) = for-answer (answers t) q
+      for-merged t (refused e) = refl
 
-      by : (r : Result Field)
+      for : (r : Result Field)
           → on (r >>= λ f. (refuse 22 unless leb (f .offset) max-i32) >> (merged p (pos (f .offset)) >>= λ q. seen (f .type) >>= λ l. ok record { steps = []; pending = q; layout = l })) is
-          ≡ followHop (moves.byField answers p r) is
-      by (ok f) = by-test (leb (f .offset) max-i32)
+          ≡ follow (moves.moveBy answers (Known w) p (moves.byField p r)) (Known w) p is
+      for (ok f) = for-test (leb (f .offset) max-i32)
         where
-          by-test : (t : Bool)
+          for-test : (t : Bool)
               → on ((refuse 22 unless t) >> (merged p (pos (f .offset)) >>= λ q. seen (f .type) >>= λ l. ok record { steps = []; pending = q; layout = l })) is
-              ≡ followHop (cond t (moves.hopBy (answers (f .type)) (merged p (pos (f .offset)))) (Refuse 22)) is
-          by-test true = by-merged (f .type) (merged p (pos (f .offset)))
-          by-test false = refl
-      by (refused e) = refl
+              ≡ follow (moves.moveBy answers (Known w) p (cond t (moves.byOffset (f .type) (merged p (pos (f .offset)))) (Stop 22))) (Known w) p is
+          for-test true = for-merged (f .type) (merged p (pos (f .offset)))
+          for-test false = refl
+      for (refused e) = refl
 
   -- ---- any index
 
-  on-part : (c : Components) (i : Index) (p : Pending) (is : List Index) → on (toPart seen (partsBy (spansOf offsets members) c) i p) is ≡ follow (moves.inMemory answers c i p) i p is
+  on-part : (c : Components) (i : Index) (p : Pending) (is : List Index)
+      → on (toPart seen (partsBy (spansOf offsets members) c) i p) is ≡ follow (moves.moveBy answers i p (moves.partWay offsets members c i p)) i p is
   unfolding toPart toElement _>>=_
   on-part Scalar i p is = refl
   on-part (Elements stride elem len) i p is = on-element (answers elem) stride len i p is
@@ -143,13 +158,14 @@ module _ (answers : ℕ → Answer) (offsets members : List ℕ) where
       by (ok rest) = ap (λ (x : List QPtrOp). ok x) (flush-append p BufferData (a .steps) rest)
       by (refused e) = refl
 
-  pub more : (l : TypeLayout) (i : Index) (p : Pending) (is : List Index) → From l p (i ∷ is) ≡ follow (moves.moveOf answers l i p) i p is
+  pub more : (l : Place) (i : Index) (p : Pending) (is : List Index) → Here l p (i ∷ is) ≡ follow (moves.moveOf answers offsets members l i p) i p is
   unfolding lowerFrom move moves.moveOf _>>=_
-  more (layout.Handle Opaque) i p is = refl
-  more (layout.Handle (Buffer m)) i p is = on-buffer (toPart seen (partsBy (spansOf offsets members) (m .components)) i Empty) p is
-  more (layout.HandleArray h n) i p is = some-before (flush p (HandleArrayIndex i ∷ [])) (From (layout.Handle h) Empty is)
-  more (layout.Concrete m) i p is = on-part (m .components) i p is
+  more Opaque i p is = refl
+  more (Buffer c) i p is = on-buffer (toPart seen (partsBy (spansOf offsets members) c) i Empty) p is
+  more Opaques i p is = some-before (flush p (HandleArrayIndex i ∷ [])) (Here Opaque Empty is)
+  more (Buffers c) i p is = some-before (flush p (HandleArrayIndex i ∷ [])) (Here (Buffer c) Empty is)
+  more (Memory c) i p is = on-part c i p is
 
-  pub no-more : (l : TypeLayout) (p : Pending) → From l p [] ≡ ok (flush p [])
+  pub no-more : (l : Place) (p : Pending) → Here l p [] ≡ ok (flush p [])
   unfolding lowerFrom
   no-more l p = refl

@@ -16,7 +16,7 @@ use Rattle.steps.specs.Stored.{StoredAt}
 use Rattle.steps.proofs.Stored.{in-front, none-stored}
 use Rattle.moves.specs.declared.Walk.{Walk}
 use Rattle.moves.specs.declared.Walk.the-variants.{Steps, Refused}
-use Rattle.moves.specs.Written.{walkOf, stepsOf, inRoomBehind, Wrote, inFrontOf, Prefixed, afterOf}
+use Rattle.moves.specs.Written.{walkOf, stepsOf, before, inRoomBehind, Wrote, inFrontOf, Prefixed, afterOf}
 
 -- ---- room
 
@@ -42,11 +42,6 @@ pub ok-wrote : (n total : ℕ) (r : Result (List QPtrOp)) (steps : List QPtrOp) 
 ok-wrote n total r steps k b l m i k′ b′ l′ m′ i′ h t s = rw h record { says = ap Steps t; stored = s }
 
 -- ---- steps in front of those of a walk
-
--- a result with steps in front
-abbrev pub before : List QPtrOp → Result (List QPtrOp) → Result (List QPtrOp)
-before steps (ok rest) = ok (steps ++ rest)
-before steps (refused e) = refused e
 
 pub length-flush : (p : Pending) (s : QPtrOp) (n : ℕ) → n + length (flush p (s ∷ [])) ≡ afterOf p n + 1
 length-flush Empty s n = refl

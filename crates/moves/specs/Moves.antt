@@ -11,20 +11,23 @@ use Rattle.spirv.specs.declared.Index.{Index}
 use Rattle.spirv.specs.declared.Index.the-variants.{Known, Unknown}
 use Rattle.shapes.specs.declared.Components.{Components}
 use Rattle.shapes.specs.declared.Components.the-variants.{Scalar, Elements, Fields}
-use Rattle.shapes.specs.declared.MemTypeLayout.{MemTypeLayout}
-use Rattle.shapes.specs.declared.Handle.the-variants.{Opaque, Buffer}
-use Rattle.shapes.specs.declared.TypeLayout.{TypeLayout}
-use Rattle.shapes.specs.declared.TypeLayout.the-variants as layout
 use Rattle.shapes.specs.declared.Answer.{Answer}
-use Rattle.shapes.specs.declared.Answer.the-variants.{Laid, Refused}
+use Rattle.shapes.specs.Spans.{spanOf}
+use Rattle.places.specs.declared.Place.{Place}
+use Rattle.places.specs.declared.Place.the-variants.{Memory, Buffer, Buffers, Opaque, Opaques}
+use Rattle.places.specs.declared.Found.{Found}
+use Rattle.places.specs.declared.Found.the-variants.{At, Refused}
+use Rattle.places.specs.Places.{foundOf}
 use Rattle.lower.specs.declared.QPtrOp.{QPtrOp}
 use Rattle.lower.specs.declared.QPtrOp.the-variants.{HandleArrayIndex, DynOffset}
 use Rattle.lower.specs.declared.Pending.{Pending}
 use Rattle.lower.specs.Steps.{merged, Field, fieldOf, boundOf, constantOffset}
-use Rattle.moves.specs.declared.Hop.{Hop}
-use Rattle.moves.specs.declared.Hop.the-variants.{Refuse, Go}
+use Rattle.moves.specs.declared.By.{By}
+use Rattle.moves.specs.declared.By.the-variants as by
+use Rattle.moves.specs.declared.Way.{Way}
+use Rattle.moves.specs.declared.Way.the-variants.{Stop, Part, Give, Enter}
 use Rattle.moves.specs.declared.Move.{Move}
-use Rattle.moves.specs.declared.Move.the-variants.{Reject, Onward, Emit, Inside, Enter}
+use Rattle.moves.specs.declared.Move.the-variants.{Reject, Onward, Emit, Inside}
 
 -- ---- the lent lists, read
 
@@ -37,50 +40,61 @@ indicesIn [] = []
 indicesIn (w ∷ []) = []
 indicesIn (w ∷ k ∷ rest) = indexOf w k ∷ indicesIn rest
 
--- ---- one index
+-- ---- where an index leads, whatever the layout is there
 
--- on to a layout, once what waits is known
-abbrev pub onward : TypeLayout → Result Pending → Move
+-- once the offset waits
+abbrev pub byOffset : (type : ℕ) → Result Pending → Way
+byOffset type (ok q) = Part type (by.Field q)
+byOffset type (refused e) = Stop e
+
+unfoldable pub fieldBy : (offset type : ℕ) → Pending → Way
+fieldBy offset type p = cond (leb offset max-i32) (byOffset type (merged p (pos offset))) (Stop far-field)
+
+abbrev pub byField : Pending → Result Field → Way
+byField p (ok f) = fieldBy (f .offset) (f .type) p
+byField p (refused e) = Stop e
+
+unfoldable pub fieldWay : (offsets types : List ℕ) → Index → Pending → Way
+fieldWay offsets types (Unknown v) p = Stop unknown-field
+fieldWay offsets types (Known w) p = byField p (fieldOf offsets types (signed w))
+
+-- a struct's fields are a span of two lists
+abbrev pub partWay : (offsets members : List ℕ) → Components → Index → Pending → Way
+partWay offsets members Scalar i p = Stop no-parts
+partWay offsets members (Elements stride elem len) i p = Part elem (by.Element stride len)
+partWay offsets members (Fields start count) i p = fieldWay (spanOf offsets start count) (spanOf members start count) i p
+
+abbrev pub wayOf : (offsets members : List ℕ) → Place → Index → Pending → Way
+wayOf offsets members (Memory c) i p = partWay offsets members c i p
+wayOf offsets members (Buffer c) i p = Enter c
+wayOf offsets members (Buffers c) i p = Give (Buffer c)
+wayOf offsets members Opaque i p = Stop no-parts
+wayOf offsets members Opaques i p = Give Opaque
+
+-- ---- and by the layout that is there
+
+-- on to a place, once what waits is known
+abbrev pub onward : Place → Result Pending → Move
 onward u (ok q) = Onward u q
 onward u (refused e) = Reject e
 
-abbrev pub byConstant : TypeLayout → QPtrOp → Pending → Option ℤ → Move
+abbrev pub byConstant : Place → QPtrOp → Pending → Option ℤ → Move
 byConstant u d p (some z) = onward u (merged p z)
 byConstant u d p none = Emit u d
 
-abbrev pub toElement : (stride len : ℕ) → Index → Pending → Answer → Move
-toElement stride len i p (Laid u) = byConstant u (DynOffset stride (boundOf len) i) p (constantOffset stride len i)
-toElement stride len i p (Refused e) = Reject e
+abbrev pub toElement : (stride len : ℕ) → Index → Pending → Place → Move
+toElement stride len i p u = byConstant u (DynOffset stride (boundOf len) i) p (constantOffset stride len i)
 
-abbrev pub inMemory : (answers : ℕ → Answer) → Components → Index → Pending → Move
-inMemory answers Scalar i p = Reject no-parts
-inMemory answers (Elements stride elem len) i p = toElement stride len i p (answers elem)
-inMemory answers (Fields start count) i p = Inside start count
+abbrev pub arrived : By → Index → Pending → Found → Move
+arrived b i p (Refused e) = Reject e
+arrived (by.Element stride len) i p (At u) = toElement stride len i p u
+arrived (by.Field q) i p (At u) = Onward u q
 
-unfoldable pub moveOf : (answers : ℕ → Answer) → TypeLayout → Index → Pending → Move
-moveOf answers (layout.Handle Opaque) i p = Reject no-parts
-moveOf answers (layout.Handle (Buffer m)) i p = Enter m
-moveOf answers (layout.HandleArray h n) i p = Emit (layout.Handle h) (HandleArrayIndex i)
-moveOf answers (layout.Concrete m) i p = inMemory answers (m .components) i p
+abbrev pub moveBy : (answers : ℕ → Answer) → Index → Pending → Way → Move
+moveBy answers i p (Stop e) = Reject e
+moveBy answers i p (Part type b) = arrived b i p (foundOf (answers type))
+moveBy answers i p (Give u) = Emit u (HandleArrayIndex i)
+moveBy answers i p (Enter c) = Inside c
 
--- ---- into a field of a span
-
--- once the offset waits and the field's layout is known
-abbrev pub hopTo : Answer → Pending → Hop
-hopTo (Laid u) q = Go u q
-hopTo (Refused e) q = Refuse e
-
-abbrev pub hopBy : Answer → Result Pending → Hop
-hopBy a (ok q) = hopTo a q
-hopBy a (refused e) = Refuse e
-
-unfoldable pub fieldHop : (answers : ℕ → Answer) → (offset type : ℕ) → Pending → Hop
-fieldHop answers offset type p = cond (leb offset max-i32) (hopBy (answers type) (merged p (pos offset))) (Refuse far-field)
-
-abbrev pub byField : (answers : ℕ → Answer) → Pending → Result Field → Hop
-byField answers p (ok f) = fieldHop answers (f .offset) (f .type) p
-byField answers p (refused e) = Refuse e
-
-unfoldable pub hopOf : (answers : ℕ → Answer) → (offsets types : List ℕ) → Index → Pending → Hop
-hopOf answers offsets types (Unknown v) p = Refuse unknown-field
-hopOf answers offsets types (Known w) p = byField answers p (fieldOf offsets types (signed w))
+unfoldable pub moveOf : (answers : ℕ → Answer) → (offsets members : List ℕ) → Place → Index → Pending → Move
+moveOf answers offsets members l i p = moveBy answers i p (wayOf offsets members l i p)

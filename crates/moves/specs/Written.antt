@@ -1,7 +1,7 @@
 -- What the walk of a chain answers, and what it leaves in the five lent lists.
 use Prim.Native.Nat.{ℕ, _+_}
 use mathlib.Core.Path.{_≡_}
-use mathlib.Core.List.{List, [], _∷_}
+use mathlib.Core.List.{List, [], _∷_, _++_}
 use lib.ListN.{length}
 use Rattle.arith.specs.Refusals.{Result, ok, refused, inRoom}
 use Rattle.lower.specs.declared.QPtrOp.{QPtrOp}
@@ -21,6 +21,11 @@ walkOf n (refused e) = Refused e
 abbrev pub stepsOf : Result (List QPtrOp) → List QPtrOp
 stepsOf (ok steps) = steps
 stepsOf (refused e) = []
+
+-- a result with steps in front
+abbrev pub before : List QPtrOp → Result (List QPtrOp) → Result (List QPtrOp)
+before steps (ok rest) = ok (steps ++ rest)
+before steps (refused e) = refused e
 
 -- 24, with n steps in front
 unfoldable pub inRoomBehind : (room n : ℕ) → Result (List QPtrOp) → Result (List QPtrOp)

@@ -3,11 +3,9 @@ use lower::Constant;
 use lower::Merged;
 use lower::Pending;
 use lower::QPtrOp;
-use shapes::Answer;
+use places::Found;
+use places::Place;
 use shapes::Components;
-use shapes::Handle;
-use shapes::MemTypeLayout;
-use shapes::TypeLayout;
 use spirv::Index;
 ghost use mathlib.Core.Path.{_≡_};
 ghost use Prim.Native.Nat.{_≤_};
@@ -15,22 +13,29 @@ ghost use mathlib.Core.List.{[]};
 ghost use Rattle.arith.specs.Refusals.{ok};
 ghost use Rattle.shapes.specs.Rows.{answerAt};
 ghost use Rattle.lower.specs.Steps.{flush, merged};
-ghost use Rattle.moves.specs.Moves.{indexOf, onward, toElement, inMemory, moveOf, fieldHop, hopOf};
+ghost use Rattle.moves.specs.Moves.{indexOf, onward, toElement, arrived, fieldBy, fieldWay, partWay, wayOf, moveOf};
 ghost use Rattle.moves.specs.Written.{Wrote, Prefixed, inRoomBehind, afterOf};
 
-// Where an index leads: refused; on to a layout, this offset waiting; on to it behind a step; to a field of a span; into a buffer.
-pub enum Move {
-    Reject(u32),
-    Onward(TypeLayout, Pending),
-    Emit(TypeLayout, QPtrOp),
-    Inside { start: u32, count: u32 },
-    Enter(MemTypeLayout),
+// How a part is reached: an element by its index, a field by its offset, which then waits.
+pub enum By {
+    Element { stride: u32, len: u32 },
+    Field(Pending),
 }
 
-// Where an index leads inside a struct: refused, or on to a layout, this offset waiting.
-pub enum Hop {
-    Refuse(u32),
-    Go(TypeLayout, Pending),
+// Where an index leads, whatever the layout is there: refused; to a part of a type; to a handle of an array; into a buffer.
+pub enum Way {
+    Stop(u32),
+    Part { ty: u32, by: By },
+    Give(Place),
+    Enter(Components),
+}
+
+// Where an index leads: refused; on to a place, this offset waiting; on to it behind a step; into a buffer, the index still to be used.
+pub enum Move {
+    Reject(u32),
+    Onward(Place, Pending),
+    Emit(Place, QPtrOp),
+    Inside(Components),
 }
 
 // What a walk ends in: the number of steps, or the refusal.
@@ -51,8 +56,8 @@ pub fn index_of(word: u32, kind: u32) -> Index
     }
 }
 
-// On to a layout by an offset.
-fn onward_by(u: TypeLayout, p: Pending, z: i32) -> Move
+// On to a place by an offset.
+fn onward_by(u: Place, p: Pending, z: i32) -> Move
     ensures { λ r. ⌜ r ≡ onward u (merged p z) ⌝ }
 {
     match lower::merge(p, z) {
@@ -61,109 +66,133 @@ fn onward_by(u: TypeLayout, p: Pending, z: i32) -> Move
     }
 }
 
-fn to_element(stride: u32, len: u32, i: Index, p: Pending, a: Answer) -> Move
-    ensures { λ r. ⌜ r ≡ toElement stride len i p a ⌝ }
+fn to_element(stride: u32, len: u32, i: Index, p: Pending, u: Place) -> Move
+    ensures { λ r. ⌜ r ≡ toElement stride len i p u ⌝ }
 {
-    match a {
-        Answer::Refused(e) => Move::Reject(e),
-        Answer::Laid(u) => match lower::constant_offset(stride, len, i) {
-            Constant::Bytes(z) => onward_by(u, p, z),
-            Constant::Dynamic => Move::Emit(
-                u,
-                QPtrOp::DynOffset {
-                    stride,
-                    bound: lower::bound_of(len),
-                    index: i,
-                },
-            ),
-        },
+    match lower::constant_offset(stride, len, i) {
+        Constant::Bytes(z) => onward_by(u, p, z),
+        Constant::Dynamic => Move::Emit(
+            u,
+            QPtrOp::DynOffset {
+                stride,
+                bound: lower::bound_of(len),
+                index: i,
+            },
+        ),
     }
 }
 
-fn in_memory(layouts: &[u32], n: u32, c: Components, i: Index, p: Pending) -> Move
-    ensures { λ r. ⌜ r ≡ inMemory (answerAt (now (layouts .entry)) n) c i p ⌝ }
+// On to a part once its place is known.
+fn arrive(by: By, i: Index, p: Pending, f: Found) -> Move
+    ensures { λ r. ⌜ r ≡ arrived by i p f ⌝ }
 {
-    match c {
-        Components::Scalar => Move::Reject(19),
-        Components::Elements {
-            stride,
-            elem,
-            fixed_len,
-        } => to_element(
-            stride,
-            fixed_len,
-            i,
-            p,
-            shapes::rows::answer_at(layouts, n, elem),
-        ),
-        Components::Fields { start, count } => Move::Inside { start, count },
-    }
-}
-
-// Where an index leads from a layout.
-pub fn next_move(layouts: &[u32], n: u32, l: TypeLayout, i: Index, p: Pending) -> Move
-    ensures { λ r. ⌜ r ≡ moveOf (answerAt (now (layouts .entry)) n) l i p ⌝ }
-{
-    match l {
-        TypeLayout::Handle(h) => match h {
-            Handle::Opaque => Move::Reject(19),
-            Handle::Buffer(m) => Move::Enter(m),
+    match f {
+        Found::Refused(e) => Move::Reject(e),
+        Found::At(u) => match by {
+            By::Element { stride, len } => to_element(stride, len, i, p, u),
+            By::Field(q) => Move::Onward(u, q),
         },
-        TypeLayout::HandleArray(h, _) => Move::Emit(
-            TypeLayout::Handle(h),
-            QPtrOp::HandleArrayIndex { index: i },
-        ),
-        TypeLayout::Concrete(m) => {
-            let c = m.components;
-            in_memory(layouts, n, c, i, p)
-        }
     }
 }
 
 // ---- a field
 
-// On to a field of a type, by its offset.
-fn hop_to(layouts: &[u32], n: u32, offset: u32, ty: u32, p: Pending) -> Hop
-    ensures { λ r. ⌜ r ≡ fieldHop (answerAt (now (layouts .entry)) n) offset ty p ⌝ }
+// To a field of a type, by its offset.
+fn field_by(offset: u32, ty: u32, p: Pending) -> Way
+    ensures { λ r. ⌜ r ≡ fieldBy offset ty p ⌝ }
 {
     if 0x7fff_ffff < offset {
-        return Hop::Refuse(22);
+        return Way::Stop(22);
     }
     match lower::merge(p, offset as i32) {
-        Merged::Over => Hop::Refuse(23),
-        Merged::Now(q) => match shapes::rows::answer_at(layouts, n, ty) {
-            Answer::Refused(e) => Hop::Refuse(e),
-            Answer::Laid(u) => Hop::Go(u, q),
+        Merged::Over => Way::Stop(23),
+        Merged::Now(q) => Way::Part {
+            ty,
+            by: By::Field(q),
         },
     }
 }
 
 // Where an index leads inside a struct whose fields are these.
-pub fn next_field(
-    layouts: &[u32],
-    n: u32,
-    offsets: &[u32],
-    types: &[u32],
-    i: Index,
-    p: Pending,
-) -> Hop
-    ensures { λ r. ⌜ r ≡ hopOf (answerAt (now (layouts .entry)) n) (now (offsets .entry)) (now (types .entry)) i p ⌝ }
+fn field_way(offsets: &[u32], types: &[u32], i: Index, p: Pending) -> Way
+    ensures { λ r. ⌜ r ≡ fieldWay (now (offsets .entry)) (now (types .entry)) i p ⌝ }
 {
     match i {
-        Index::Unknown(_) => Hop::Refuse(20),
+        Index::Unknown(_) => Way::Stop(20),
         Index::Known(w) => {
             if 0x7fff_ffff < w {
-                return Hop::Refuse(21);
+                return Way::Stop(21);
             }
             let at = w as usize;
             if offsets.len() <= at {
-                return Hop::Refuse(21);
+                return Way::Stop(21);
             }
             if types.len() <= at {
-                return Hop::Refuse(21);
+                return Way::Stop(21);
             }
-            hop_to(layouts, n, offsets[at], types[at], p)
+            field_by(offsets[at], types[at], p)
         }
+    }
+}
+
+// ---- any index
+
+fn part_way(offsets: &[u32], members: &[u32], c: Components, i: Index, p: Pending) -> Way
+    ensures { λ r. ⌜ r ≡ partWay (now (offsets .entry)) (now (members .entry)) c i p ⌝ }
+{
+    match c {
+        Components::Scalar => Way::Stop(19),
+        Components::Elements {
+            stride,
+            elem,
+            fixed_len,
+        } => Way::Part {
+            ty: elem,
+            by: By::Element {
+                stride,
+                len: fixed_len,
+            },
+        },
+        Components::Fields { start, count } => {
+            let os = shapes::rows::span(offsets, start, count);
+            let ts = shapes::rows::span(members, start, count);
+            field_way(os, ts, i, p)
+        }
+    }
+}
+
+fn way_of(offsets: &[u32], members: &[u32], l: Place, i: Index, p: Pending) -> Way
+    ensures { λ r. ⌜ r ≡ wayOf (now (offsets .entry)) (now (members .entry)) l i p ⌝ }
+{
+    match l {
+        Place::Memory(c) => part_way(offsets, members, c, i, p),
+        Place::Buffer(c) => Way::Enter(c),
+        Place::Buffers(c) => Way::Give(Place::Buffer(c)),
+        Place::Opaque => Way::Stop(19),
+        Place::Opaques => Way::Give(Place::Opaque),
+    }
+}
+
+// Where an index leads from a place.
+pub fn next_move(
+    layouts: &[u32],
+    n: u32,
+    offsets: &[u32],
+    members: &[u32],
+    l: Place,
+    i: Index,
+    p: Pending,
+) -> Move
+    ensures { λ r. ⌜ r ≡ moveOf (answerAt (now (layouts .entry)) n) (now (offsets .entry)) (now (members .entry)) l i p ⌝ }
+{
+    match way_of(offsets, members, l, i, p) {
+        Way::Stop(e) => Move::Reject(e),
+        Way::Part { ty, by } => {
+            let f = places::place_at(layouts, n, ty);
+            arrive(by, i, p, f)
+        }
+        Way::Give(u) => Move::Emit(u, QPtrOp::HandleArrayIndex { index: i }),
+        Way::Enter(c) => Move::Inside(c),
     }
 }
 

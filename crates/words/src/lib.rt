@@ -1,5 +1,6 @@
 // Words of 32 bits as four bytes, the least first: how C hands over indices and takes steps.
 ghost use mathlib.Core.Path.{_≡_};
+ghost use lib.Dec.{leb};
 ghost use Prim.Native.Nat.{_+_, _%_, _≤_};
 ghost use lib.ListN.{length};
 ghost use Rattle.text.specs.Printed.{Printed};
@@ -13,10 +14,35 @@ fn low(w: u32) -> u8
     (w % 256) as u8
 }
 
+// Whether four bytes fit from `at` on.
+fn four_fit(len: usize, at: usize) -> bool
+    ensures { λ r. ⌜ r ≡ leb (at + 4) len ⌝ }
+{
+    if len < 4 {
+        return false;
+    }
+    at <= len - 4
+}
+
+// The four bytes of a word, where they fit.
+fn store_word(out: &mut [u8], at: usize, w: u32)
+    requires { ⌜ at + 4 ≤ length (now out) ⌝ }
+    ensures { λ _. ⌜ now (out .exit) ≡ sets (now (out .entry)) at (little w) ⌝ }
+{
+    out[at] = low(w);
+    out[at + 1] = low(w / 256);
+    out[at + 2] = low(w / 256 / 256);
+    out[at + 3] = low(w / 256 / 256 / 256);
+}
+
 // The four bytes of a word.
 pub fn put_word(out: &mut [u8], at: usize, w: u32) -> usize
     ensures { λ r. ⌜ Printed (little w) (now (out .entry)) at r (now (out .exit)) ⌝ }
 {
+    if four_fit(out.len(), at) {
+        store_word(out, at, w);
+        return at + 4;
+    }
     let bytes = [
         low(w),
         low(w / 256),

@@ -1,16 +1,15 @@
--- `chain::lower_from` meets its contract: 2 before all else, and then the array part from the first step on. Assumes nothing.
+-- `chain::lower_from` meets its contract: 2 before all else, and then the struct part from the layout's place on. Assumes nothing.
 use native.Mathlib.Omega.{arith}
 use denote.Ref.{now}
 use Rattle.chain.specs.Chains.{roomOf}
 use Rattle.moves.proofs.Writes.{refused-wrote}
-use Rattle.chain.proofs.Chains.{weight-most, too-many, few-enough}
+use Rattle.chain.proofs.Chains.{weight-most, too-many, few-from}
 use borrow.Author.Needs.{needs}
 use Rattle.chain.proofs.lower_from.Statement.{statement}
 use Rattle.chain.proofs.lower_from.Tie as tie
 
 returns : tie.Need-returns
-returns c =
-    let a = c .before .before .before .before .before .before .before .before .before .before .args in
+returns c = let a = c .before .before .before .before .before .before .before .before .before .before .args in
     refused-wrote _ _ _ _ _ _ _ _ (too-many _ (now (a .layouts)) (now (a .offsets)) (now (a .members)) (a .types) (a .l) (now (a .chain)) (omega (arith, c .if1 .taken)))
 
 smaller-requires : tie.Need-smaller-requires
@@ -25,8 +24,11 @@ smaller-requires-3 c κs = search needs
 smaller-requires-4 : tie.Need-smaller-requires-4
 smaller-requires-4 c κs = search needs
 
-array-part-requires : tie.Need-array-part-requires
-array-part-requires c κs = omega (arith, c .before .before .before .before .before .before .before .before .before .if1 .left, weight-most (c .before .before .before .before .before .before .before .before .before .before .before .before .before .before .before .before .before .before .before .args .l))
+place-of-requires : tie.Need-place-of-requires
+place-of-requires c κs = search needs
+
+struct-part-requires : tie.Need-struct-part-requires
+struct-part-requires c κs = ((omega arith, omega (arith, c .before .before .before .before .before .before .before .before .before .before .if1 .left)), omega (arith, c .before .before .before .before .before .before .before .before .before .before .if1 .left, weight-most (c .before .before .before .before .before .place-of .result)))
 
 same-length : tie.Need-same-length
 same-length c = search needs
@@ -44,17 +46,15 @@ same-length-5 : tie.Need-same-length-5
 same-length-5 c = search needs
 
 returns-2 : tie.Need-returns-2
-returns-2 c =
-    let called = c .before .before .before .before .before .before .before .before .before .before in
-    let sized = c .before .before .before .before .before .before .before .before .before .before .before .before .before .before .before .before in
-    let a = c .before .before .before .before .before .before .before .before .before .before .before .before .before .before .before .before .before .before .before .before .before .before .before .before .before .before .before .before .before .before .args in
+returns-2 c = let a = c .before .before .before .before .before .before .before .before .before .before .before .before .before .before .before .before .before .before .before .before .before .before .before .before .before .before .before .before .before .before .before .args in
     rw (
-      few-enough (roomOf (now (a .kinds)) (now (a .bytes)) (now (a .bounds)) (now (a .marks)) (now (a .indices))) (now (a .layouts)) (now (a .offsets)) (now (a .members)) (a .types) (a .l) (now (a .chain)) (omega (arith, c .before .before .before .before .before .before .before .before .before .before .before .before .before .before .before .before .before .before .before .before .if1 .left)),
-      ← sized .before .before .before .smaller .ensures,
-      ← sized .before .before .smaller2 .ensures,
-      ← sized .before .smaller3 .ensures,
-      ← sized .smaller4 .ensures,
-    ) (called .array-part .ensures)
+      few-from (roomOf (now (a .kinds)) (now (a .bytes)) (now (a .bounds)) (now (a .marks)) (now (a .indices))) (now (a .layouts)) (now (a .offsets)) (now (a .members)) (a .types) (a .l) (now (a .chain)) (omega (arith, c .before .before .before .before .before .before .before .before .before .before .before .before .before .before .before .before .before .before .before .before .before .if1 .left)),
+      ← c .before .before .before .before .before .before .before .before .before .before .before .before .before .before .before .before .before .before .before .before .smaller .ensures,
+      ← c .before .before .before .before .before .before .before .before .before .before .before .before .before .before .before .before .before .before .before .smaller2 .ensures,
+      ← c .before .before .before .before .before .before .before .before .before .before .before .before .before .before .before .before .before .before .smaller3 .ensures,
+      ← c .before .before .before .before .before .before .before .before .before .before .before .before .before .before .before .before .before .smaller4 .ensures,
+      ← c .before .before .before .before .before .before .before .before .before .before .before .before .before .before .before .before .place-of .ensures,
+    ) (c .before .before .before .before .before .before .before .before .before .before .struct-part .ensures)
 
 pub lower-from-spec : {M : Type 1} → statement M
 lower-from-spec =
@@ -65,7 +65,8 @@ lower-from-spec =
     smaller-requires-2
     smaller-requires-3
     smaller-requires-4
-    array-part-requires
+    place-of-requires
+    struct-part-requires
     same-length
     same-length-2
     same-length-3

@@ -1,17 +1,11 @@
--- `moves::to_element` meets its contract: the element's layout, and whether the index is constant. Assumes nothing.
-use mathlib.Core.Path.{_≡_, sym, ap, _∙_}
+-- `moves::to_element` meets its contract: whether the index is constant. Assumes nothing.
+use mathlib.Core.Path.{sym, _∙_}
 use mir.Syntax.{w32}
 use mir.ValLaws.{toZ-ofZ}
 use Rattle.lower.proofs.InCode.{bytes-is, dynamic-is}
 use borrow.Author.Needs.{needs}
 use Rattle.moves.proofs.to_element.Statement.{statement}
 use Rattle.moves.proofs.to_element.Tie as tie
-
-enum-known-a : tie.Need-enum-known-a
-enum-known-a c = search needs
-
-enum-known-a-2 : tie.Need-enum-known-a-2
-enum-known-a-2 c = search needs
 
 constant-offset-requires : tie.Need-constant-offset-requires
 constant-offset-requires c κs = search needs
@@ -29,29 +23,21 @@ bound-of-requires : tie.Need-bound-of-requires
 bound-of-requires c κs = search needs
 
 returns : tie.Need-returns
-returns c = rw (c .before .a .given .1)
+returns c = let e = bytes-is _ _ (sym (c .before .before .before .before .constant-offset .ensures) ∙ c .before .before .z .given .1) in
+    rw e (simp (toZ-ofZ w32 (c .before .before .z .given .0 .0) (record { sfits = c .before .known-told .given .0 .1 })) at (c .onward-by .ensures))
 
 returns-2 : tie.Need-returns-2
-returns-2 c =
-    let e = bytes-is _ _ (sym (c .before .before .before .before .constant-offset .ensures) ∙ c .before .before .z .given .1) in
-    rw (c .before .before .before .before .before .before .a2 .given .1, e) (simp (toZ-ofZ w32 (c .before .before .z .given .0 .0) (record { sfits = c .before .known-told3 .given .0 .1 })) at (c .onward-by .ensures))
-
-returns-3 : tie.Need-returns-3
-returns-3 c =
-    let e = dynamic-is _ (sym (c .before .before .before .constant-offset .ensures) ∙ c .before .enum-told .given .1) in
-    rw (c .before .before .before .before .before .a2 .given .1, e, ← c .bound-of .ensures)
+returns-2 c = let e = dynamic-is _ (sym (c .before .before .before .constant-offset .ensures) ∙ c .before .enum-told .given .1) in
+    rw (e, ← c .bound-of .ensures)
 
 pub to-element-spec : {M : Type 1} → statement M
 to-element-spec =
     tie.close
     (tie.spec
-    enum-known-a
-    enum-known-a-2
     constant-offset-requires
     enum-known-z
     onward-by-requires
     enum-told
     bound-of-requires
     returns
-    returns-2
-    returns-3)
+    returns-2)
