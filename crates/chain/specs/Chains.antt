@@ -4,7 +4,7 @@ use mathlib.Core.Path.{_≡_}
 use mathlib.Core.List.{List, [], _∷_}
 use lib.Dec.{ltb}
 use lib.ListN.{length, drop}
-use Rattle.arith.specs.Refusals.{Result, ok, refused, refuse_when_, oversize}
+use Rattle.arith.specs.Refusals.{Result, ok, refused, _>>_, refuse_when_, oversize}
 use Rattle.spirv.specs.declared.Index.{Index}
 use Rattle.shapes.specs.declared.TypeLayout.{TypeLayout}
 use Rattle.places.specs.declared.Place.{Place}
