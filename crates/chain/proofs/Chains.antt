@@ -38,9 +38,7 @@ use Rattle.moves.specs.declared.Way.the-variants.{Stop}
 use Rattle.moves.specs.Moves.{indexOf, indicesIn, byOffset, fieldBy, byField, fieldWay, partWay, onward, byConstant, arrived, moveBy, moveOf}
 use Rattle.moves.specs.Written.{before, afterOf, inRoomBehind}
 use Rattle.chain.specs.declared.Run.{Run}
-use Rattle.chain.specs.declared.Run.the-variants.{Refused, Ended, Gives}
-use Rattle.chain.specs.declared.Spot.the-variants.{Struct}
-use Rattle.chain.specs.Chains.{weight, chainFrom, onFrom, chainOf, ranOn, Falls, Ran, fieldsAt, spotOf}
+use Rattle.chain.specs.Chains.{weight, chainFrom, onFrom, chainOf, ranOn, Falls, Ran}
 use Rattle.moves.proofs.Lowers.{follow, more, no-more, as-placed}
 
 -- ---- indices as words
@@ -174,45 +172,6 @@ entered answers offsets members (Buffer c) i p d e = refl
 entered answers offsets members (Buffers c) i p d e = refl
 entered answers offsets members Opaque i p d e = refl
 entered answers offsets members Opaques i p d e = refl
-
--- ---- how far a walk gets, by its first index
-
-module _ {layouts offsets members : List ℕ} {types : ℕ} {chain : List ℕ} (at : ℕ) (l : Place) (p : Pending) where
-  pub ran-ends : length chain < at + 2 → Ran layouts offsets members types chain at l p (Ended p)
-  ran-ends h = record { goes = walk-ends layouts offsets members types chain at l p h; falls = tt }
-
-  module _ {i : Index} {r : Move} (h : at + 2 ≤ length chain) (e : i ≡ indexOf (getD chain at 0) (getD chain (at + 1) 0)) (g : r ≡ moveOf (answerAt layouts types) offsets members l i p) where
-    pub ran-stops : (n : ℕ) → r ≡ Reject n → Ran layouts offsets members types chain at l p (Refused n)
-    ran-stops n k = record { goes = walk-goes layouts offsets members types chain at l p h e g k; falls = tt }
-
-    pub ran-gives : (u : Place) (s : QPtrOp) → r ≡ Emit u s → Ran layouts offsets members types chain at l p (Gives (at + 2) u p s)
-    ran-gives u s k = record { goes = walk-goes layouts offsets members types chain at l p h e g k; falls = (h, omega (arith, weight-most u)) }
-
-    pub ran-enters : (c : Components) → r ≡ Inside c → Ran layouts offsets members types chain at l p (Gives at (Memory c) p BufferData)
-    ran-enters c k = record {
-      goes = walk-goes layouts offsets members types chain at l p h e g k;
-      falls = (omega arith, omega (arith, entered (answerAt layouts types) offsets members l i p c (sym g ∙ k)));
-    }
-
-    pub ran-on : {u : Place} {q : Pending} {x : Run} → r ≡ Onward u q → Ran layouts offsets members types chain (at + 2) u q x → Ran layouts offsets members types chain at l p x
-    ran-on {u} {q} {x} k y = record { goes = walk-goes layouts offsets members types chain at l p h e g k ∙ y .goes; falls = by x (y .falls) }
-      where
-        by : (z : Run) → Falls layouts offsets members types chain (at + 2) u z → Falls layouts offsets members types chain at l z
-        by (Refused n) f = tt
-        by (Ended o) f = tt
-        by (Gives k v o s) f = (f .0, omega (arith, f .1, weight-most u))
-
-pub struct-is : (l : Place) (start count : ℕ) → spotOf l ≡ Struct start count → l ≡ fieldsAt start count
-struct-is (Memory (Fields s c)) start count h =
-    let a : s ≡ start = cc in
-    let b : c ≡ count = cc in
-    rw (a, b)
-struct-is (Memory (Elements stride elem len)) start count h = absurd (let z : _≡_ {A = ℕ} 0 1 = cc in omega arith)
-struct-is (Memory Scalar) start count h = absurd (let z : _≡_ {A = ℕ} 0 1 = cc in omega arith)
-struct-is (Buffer c) start count h = absurd (let z : _≡_ {A = ℕ} 0 1 = cc in omega arith)
-struct-is (Buffers c) start count h = absurd (let z : _≡_ {A = ℕ} 0 1 = cc in omega arith)
-struct-is Opaque start count h = absurd (let z : _≡_ {A = ℕ} 0 1 = cc in omega arith)
-struct-is Opaques start count h = absurd (let z : _≡_ {A = ℕ} 0 1 = cc in omega arith)
 
 -- ---- at most 255 indices
 

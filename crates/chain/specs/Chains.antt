@@ -18,9 +18,6 @@ use Rattle.shapes.specs.Spans.{spansOf, layoutBy, answerBy}
 use Rattle.lower.specs.Steps.{flush, lowerFrom}
 use Rattle.moves.specs.Moves.{indicesIn}
 use Rattle.moves.specs.Written.{before, inRoomBehind}
-use Rattle.shapes.specs.declared.Components.the-variants.{Scalar, Elements, Fields}
-use Rattle.chain.specs.declared.Spot.{Spot}
-use Rattle.chain.specs.declared.Spot.the-variants.{Struct, Other}
 use Rattle.chain.specs.declared.Run.{Run}
 use Rattle.chain.specs.declared.Run.the-variants.{Refused, Ended, Gives}
 
@@ -83,17 +80,3 @@ module _ (layouts offsets members : List ℕ) (types : ℕ) (chain : List ℕ) w
   pub record Ran (from : ℕ) (l : Place) (p : Pending) (r : Run) : Type 0 where
     pub goes : onFrom layouts offsets members types chain from l p ≡ ranOn r
     pub falls : Falls from l r
-
--- ---- a struct, or not
-
-abbrev pub fieldsAt : (start count : ℕ) → Place
-fieldsAt start count = Memory (Fields start count)
-
-abbrev pub spotOf : Place → Spot
-spotOf (Memory (Fields start count)) = Struct start count
-spotOf (Memory (Elements stride elem len)) = Other
-spotOf (Memory Scalar) = Other
-spotOf (Buffer c) = Other
-spotOf (Buffers c) = Other
-spotOf Opaque = Other
-spotOf Opaques = Other

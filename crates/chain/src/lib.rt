@@ -4,15 +4,14 @@ use lower::QPtrOp;
 use moves::Move;
 use moves::Walk;
 use places::Place;
-use shapes::Components;
 use shapes::TypeLayout;
 ghost use mathlib.Core.Path.{_≡_};
 ghost use mathlib.Core.List.{[], _∷_};
-ghost use Prim.Native.Nat.{_+_, _≤_};
+ghost use Prim.Native.Nat.{_+_};
 ghost use lib.ListN.{length};
 ghost use Rattle.lower.specs.Steps.{flush};
 ghost use Rattle.moves.specs.Written.{Wrote, before, inRoomBehind};
-ghost use Rattle.chain.specs.Chains.{Within, Few, Ran, fieldsAt, spotOf, onFrom, chainOf, roomOf};
+ghost use Rattle.chain.specs.Chains.{Within, Few, Ran, onFrom, chainOf, roomOf};
 
 // How far a walk gets without a step: it is refused; it ends, this offset waiting; or it gives a step behind what waits, and goes on from there.
 pub enum Run {
@@ -26,124 +25,57 @@ pub enum Run {
     },
 }
 
-// A struct's fields are a span of two lists; what is no struct is something else.
-pub enum Spot {
-    Struct { start: u32, count: u32 },
-    Other,
-}
-
-fn spot_of(l: Place) -> Spot
-    ensures { λ r. ⌜ r ≡ spotOf l ⌝ }
-{
-    match l {
-        Place::Memory(c) => match c {
-            Components::Fields { start, count } => Spot::Struct { start, count },
-            Components::Elements {
-                stride: _,
-                elem: _,
-                fixed_len: _,
-            } => Spot::Other,
-            Components::Scalar => Spot::Other,
-        },
-        Place::Buffer(_) => Spot::Other,
-        Place::Buffers(_) => Spot::Other,
-        Place::Opaque => Spot::Other,
-        Place::Opaques => Spot::Other,
-    }
-}
-
-// The array part: an element, or what an index into a handle gives, and on with the indices left. It hands a struct to the struct part.
-fn array_part(
+// From a place on, fields and constant elements are no more than offsets that wait.
+fn go_on(
     layouts: &[u32],
     types: u32,
     offsets: &[u32],
     members: &[u32],
     chain: &[u32],
-    at: usize,
+    from: usize,
     l: Place,
     p: Pending,
 ) -> Run
-    requires { ⌜ Within at (length (now chain)) ⌝ }
-    ensures { λ r. ⌜ Ran (now (layouts .entry)) (now (offsets .entry)) (now (members .entry)) types (now (chain .entry)) at l p r ⌝ }
+    requires { ⌜ Within from (length (now chain)) ⌝ }
+    ensures { λ r. ⌜ Ran (now (layouts .entry)) (now (offsets .entry)) (now (members .entry)) types (now (chain .entry)) from l p r ⌝ }
 {
-    if chain.len() < at + 2 {
-        return Run::Ended(p);
-    }
-    match spot_of(l) {
-        Spot::Struct { start, count } => struct_part(
-            layouts,
-            types,
-            offsets,
-            members,
-            chain,
-            at,
-            start,
-            count,
-            p,
-        ),
-        Spot::Other => {
-            let i = moves::index_of(chain[at], chain[at + 1]);
-            match moves::next_move(layouts, types, offsets, members, l, i, p) {
-                Move::Reject(e) => Run::Refused(e),
-                Move::Onward(u, q) => {
-                    array_part(layouts, types, offsets, members, chain, at + 2, u, q)
-                }
-                Move::Emit(u, s) => Run::Gives {
+    let mut at = from;
+    let mut u = l;
+    let mut q = p;
+    while at + 2 <= chain.len() {
+        let i = moves::index_of(chain[at], chain[at + 1]);
+        match moves::next_move(layouts, types, offsets, members, u, i, q) {
+            Move::Reject(e) => {
+                return Run::Refused(e);
+            }
+            Move::Onward(v, w) => {
+                u = v;
+                q = w;
+                at += 2;
+            }
+            Move::Emit(v, s) => {
+                return Run::Gives {
                     at: at + 2,
-                    place: u,
-                    waiting: p,
+                    place: v,
+                    waiting: q,
                     step: s,
-                },
-                Move::Inside(c) => Run::Gives {
+                };
+            }
+            Move::Inside(c) => {
+                return Run::Gives {
                     at,
                     place: Place::Memory(c),
-                    waiting: p,
+                    waiting: q,
                     step: QPtrOp::BufferData,
-                },
+                };
             }
         }
     }
+    Run::Ended(q)
 }
 
-// The struct part: a field, and then the array part on the indices left.
+// The struct part: fields, and elements at constant places, which are as fields are. It hands an index that gives a step to the array part.
 fn struct_part(
-    layouts: &[u32],
-    types: u32,
-    offsets: &[u32],
-    members: &[u32],
-    chain: &[u32],
-    at: usize,
-    start: u32,
-    count: u32,
-    p: Pending,
-) -> Run
-    requires { ⌜ (at + 2 ≤ length (now chain)) × (length (now chain) ≤ 510) ⌝ }
-    ensures { λ r. ⌜ Ran (now (layouts .entry)) (now (offsets .entry)) (now (members .entry)) types (now (chain .entry)) at (fieldsAt start count) p r ⌝ }
-{
-    let l = Place::Memory(Components::Fields { start, count });
-    let i = moves::index_of(chain[at], chain[at + 1]);
-    match moves::next_move(layouts, types, offsets, members, l, i, p) {
-        Move::Reject(e) => Run::Refused(e),
-        Move::Onward(u, q) => array_part(layouts, types, offsets, members, chain, at + 2, u, q),
-        Move::Emit(u, s) => Run::Gives {
-            at: at + 2,
-            place: u,
-            waiting: p,
-            step: s,
-        },
-        Move::Inside(c) => Run::Gives {
-            at,
-            place: Place::Memory(c),
-            waiting: p,
-            step: QPtrOp::BufferData,
-        },
-    }
-}
-
-// ---- the steps, stored on the way back
-
-// The steps from a place on.
-fn steps_from(
     layouts: &[u32],
     types: u32,
     offsets: &[u32],
@@ -163,7 +95,7 @@ fn steps_from(
     requires { ⌜ Within from (length (now chain)) × Few n (length (now chain)) from l ⌝ }
     ensures { λ r. ⌜ Wrote n (inRoomBehind room n (onFrom (now (layouts .entry)) (now (offsets .entry)) (now (members .entry)) types (now (chain .entry)) from l p)) r (now (kinds .entry)) (now (bytes .entry)) (now (bounds .entry)) (now (marks .entry)) (now (indices .entry)) (now (kinds .exit)) (now (bytes .exit)) (now (bounds .exit)) (now (marks .exit)) (now (indices .exit)) ⌝ }
 {
-    match array_part(layouts, types, offsets, members, chain, from, l, p) {
+    match go_on(layouts, types, offsets, members, chain, from, l, p) {
         Run::Refused(e) => Walk::Refused(e),
         Run::Ended(q) => moves::finish(q, n, room, kinds, bytes, bounds, marks, indices),
         Run::Gives {
@@ -171,7 +103,7 @@ fn steps_from(
             place,
             waiting,
             step,
-        } => step_before(
+        } => array_part(
             layouts,
             types,
             offsets,
@@ -192,8 +124,8 @@ fn steps_from(
     }
 }
 
-// What waits and a step, stored once the steps behind it are.
-fn step_before(
+// The array part: what waits and a step, stored once the struct part has answered for the indices left.
+fn array_part(
     layouts: &[u32],
     types: u32,
     offsets: &[u32],
@@ -215,7 +147,7 @@ fn step_before(
     ensures { λ r. ⌜ Wrote n (inRoomBehind room n (before (flush p (s ∷ [])) (onFrom (now (layouts .entry)) (now (offsets .entry)) (now (members .entry)) types (now (chain .entry)) at l Pending.Empty))) r (now (kinds .entry)) (now (bytes .entry)) (now (bounds .entry)) (now (marks .entry)) (now (indices .entry)) (now (kinds .exit)) (now (bytes .exit)) (now (bounds .exit)) (now (marks .exit)) (now (indices .exit)) ⌝ }
 {
     let next = moves::after(p, n) + 1;
-    let r = steps_from(
+    let r = struct_part(
         layouts,
         types,
         offsets,
@@ -257,7 +189,7 @@ pub fn lower_from(
     let most = arith::smaller(bounds.len(), arith::smaller(marks.len(), indices.len()));
     let room = arith::smaller(kinds.len(), arith::smaller(bytes.len(), most));
     let place = places::place_of(l);
-    steps_from(
+    struct_part(
         layouts,
         types,
         offsets,

@@ -27,8 +27,8 @@ smaller-requires-4 c κs = search needs
 place-of-requires : tie.Need-place-of-requires
 place-of-requires c κs = search needs
 
-steps-from-requires : tie.Need-steps-from-requires
-steps-from-requires c κs = ((omega arith, omega (arith, c .before .before .before .before .before .before .before .before .before .before .if1 .left)), omega (arith, c .before .before .before .before .before .before .before .before .before .before .if1 .left, weight-most (c .before .before .before .before .before .place-of .result)))
+struct-part-requires : tie.Need-struct-part-requires
+struct-part-requires c κs = ((omega arith, omega (arith, c .before .before .before .before .before .before .before .before .before .before .if1 .left)), omega (arith, c .before .before .before .before .before .before .before .before .before .before .if1 .left, weight-most (c .before .before .before .before .before .place-of .result)))
 
 same-length : tie.Need-same-length
 same-length c = search needs
@@ -54,7 +54,7 @@ returns-2 c = let a = c .before .before .before .before .before .before .before 
       ← c .before .before .before .before .before .before .before .before .before .before .before .before .before .before .before .before .before .before .smaller3 .ensures,
       ← c .before .before .before .before .before .before .before .before .before .before .before .before .before .before .before .before .before .smaller4 .ensures,
       ← c .before .before .before .before .before .before .before .before .before .before .before .before .before .before .before .before .place-of .ensures,
-    ) (c .before .before .before .before .before .before .before .before .before .before .steps-from .ensures)
+    ) (c .before .before .before .before .before .before .before .before .before .before .struct-part .ensures)
 
 pub lower-from-spec : {M : Type 1} → statement M
 lower-from-spec =
@@ -66,7 +66,7 @@ lower-from-spec =
     smaller-requires-3
     smaller-requires-4
     place-of-requires
-    steps-from-requires
+    struct-part-requires
     same-length
     same-length-2
     same-length-3
