@@ -175,14 +175,16 @@ entered answers offsets members Opaques i p d e = refl
 
 -- ---- at most 255 indices
 
-module _ (room : ℕ) (layouts offsets members : List ℕ) (types : ℕ) (l : TypeLayout) (chain : List ℕ) where
+module _ (room : ℕ) (layouts offsets members : List ℕ) (types : ℕ) (l : Place) (chain : List ℕ) where
   pub too-many : 510 < length chain → chainOf room layouts offsets members types l chain ≡ refused oversize
   unfolding chainOf _>>_ refuse_when_
   too-many h = rw (lt-ltb 510 (length chain) h)
 
-  pub few-enough : length chain ≤ 510 → chainOf room layouts offsets members types l chain ≡ inRoomBehind room 0 (chainFrom layouts offsets members types l Empty (indicesIn chain))
+  pub few-enough : length chain ≤ 510 → chainOf room layouts offsets members types l chain ≡ inRoomBehind room 0 (onFrom layouts offsets members types chain 0 l Empty)
   unfolding chainOf _>>_ refuse_when_
   few-enough h = rw (le-ltb 510 (length chain) h)
 
-  pub few-from : length chain ≤ 510 → chainOf room layouts offsets members types l chain ≡ inRoomBehind room 0 (onFrom layouts offsets members types chain 0 (placeOf l) Empty)
-  few-from h = few-enough h ∙ ap (inRoomBehind room 0) (walk-starts layouts offsets members types chain l Empty)
+-- from a layout on is from its place on
+pub few-from : (room : ℕ) (layouts offsets members : List ℕ) (types : ℕ) (l : TypeLayout) (chain : List ℕ) → length chain ≤ 510
+    → chainOf room layouts offsets members types (placeOf l) chain ≡ inRoomBehind room 0 (chainFrom layouts offsets members types l Empty (indicesIn chain))
+few-from room layouts offsets members types l chain h = few-enough room layouts offsets members types (placeOf l) chain h ∙ sym (ap (inRoomBehind room 0) (walk-starts layouts offsets members types chain l Empty))

@@ -49,11 +49,15 @@ Few n words at l = n + left words at l ≤ 4096
 unfoldable pub chainFrom : (layouts offsets members : List ℕ) (types : ℕ) → TypeLayout → Pending → List Index → Result (List QPtrOp)
 chainFrom layouts offsets members types l p is = lowerFrom (λ t. answerBy (spansOf offsets members) (answerAt layouts types t)) (layoutBy (spansOf offsets members) l) p is
 
--- more than 255 indices are 2, before all else
-unfoldable pub chainOf : (room : ℕ) (layouts offsets members : List ℕ) (types : ℕ) → TypeLayout → (chain : List ℕ) → Result (List QPtrOp)
+-- the steps from a place on, of the indices whose words stand behind the first `at` words of a chain
+unfoldable pub onFrom : (layouts offsets members : List ℕ) (types : ℕ) (chain : List ℕ) (at : ℕ) → Place → Pending → Result (List QPtrOp)
+onFrom layouts offsets members types chain at l p = chainFrom layouts offsets members types (layoutAt l) p (indicesIn (drop at chain))
+
+-- from a place on; more than 255 indices are 2, before all else
+unfoldable pub chainOf : (room : ℕ) (layouts offsets members : List ℕ) (types : ℕ) → Place → (chain : List ℕ) → Result (List QPtrOp)
 chainOf room layouts offsets members types l chain = do
   refuse oversize when ltb 510 (length chain)
-  inRoomBehind room 0 (chainFrom layouts offsets members types l Empty (indicesIn chain))
+  inRoomBehind room 0 (onFrom layouts offsets members types chain 0 l Empty)
 
 -- the places that all five lists have
 abbrev pub roomOf : (ks bs ls ms is : List ℕ) → ℕ
@@ -61,21 +65,17 @@ roomOf ks bs ls ms is = min (length ks) (min (length bs) (min (length ls) (min (
 
 -- ---- how far a walk gets without a step
 
--- the steps from a place on, of the indices whose words stand behind the first `at` words of a chain
-unfoldable pub onFrom : (layouts offsets members : List ℕ) (types : ℕ) (chain : List ℕ) (at : ℕ) → Place → Pending → Result (List QPtrOp)
-onFrom layouts offsets members types chain at l p = chainFrom layouts offsets members types (layoutAt l) p (indicesIn (drop at chain))
-
 module _ (layouts offsets members : List ℕ) (types : ℕ) (chain : List ℕ) where
   abbrev pub ranOn : Run → Result (List QPtrOp)
   ranOn (Refused e) = refused e
   ranOn (Ended q) = ok (flush q [])
-  ranOn (Gives at u q s) = before (flush q (s ∷ [])) (onFrom layouts offsets members types chain at u Empty)
+  ranOn (Gives q u s at) = before (flush q (s ∷ [])) (onFrom layouts offsets members types chain at u Empty)
 
   -- a step takes an index, or enters a buffer
   abbrev pub Falls : (from : ℕ) → Place → Run → Type 0
   Falls from l (Refused e) = Unit {0}
   Falls from l (Ended q) = Unit {0}
-  Falls from l (Gives at u q s) = (at ≤ length chain) × (left (length chain) at u + 2 ≤ left (length chain) from l)
+  Falls from l (Gives q u s at) = (at ≤ length chain) × (left (length chain) at u + 2 ≤ left (length chain) from l)
 
   pub record Ran (from : ℕ) (l : Place) (p : Pending) (r : Run) : Type 0 where
     pub goes : onFrom layouts offsets members types chain from l p ≡ ranOn r

@@ -4,7 +4,6 @@ use lower::QPtrOp;
 use moves::Move;
 use moves::Walk;
 use places::Place;
-use shapes::TypeLayout;
 ghost use mathlib.Core.Path.{_≡_};
 ghost use mathlib.Core.List.{[], _∷_};
 ghost use Prim.Native.Nat.{_+_};
@@ -18,10 +17,10 @@ pub enum Run {
     Refused(u32),
     Ended(Pending),
     Gives {
-        at: usize,
-        place: Place,
         waiting: Pending,
+        place: Place,
         step: QPtrOp,
+        at: usize,
     },
 }
 
@@ -55,18 +54,18 @@ fn go_on(
             }
             Move::Emit(v, s) => {
                 return Run::Gives {
-                    at: at + 2,
-                    place: v,
                     waiting: q,
+                    place: v,
                     step: s,
+                    at: at + 2,
                 };
             }
             Move::Inside(c) => {
                 return Run::Gives {
-                    at,
-                    place: Place::Memory(c),
                     waiting: q,
+                    place: Place::Memory(c),
                     step: QPtrOp::BufferData,
+                    at,
                 };
             }
         }
@@ -99,10 +98,10 @@ fn struct_part(
         Run::Refused(e) => Walk::Refused(e),
         Run::Ended(q) => moves::finish(q, n, room, kinds, bytes, bounds, marks, indices),
         Run::Gives {
-            at,
-            place,
             waiting,
+            place,
             step,
+            at,
         } => array_part(
             layouts,
             types,
@@ -167,14 +166,14 @@ fn array_part(
     moves::prefix(r, p, s, n, kinds, bytes, bounds, marks, indices)
 }
 
-// A chain of at most 255 indices, each two words, from a layout on: its steps in the five lists, or the refusal and the lists as they were.
+// A chain of at most 255 indices, each two words, from a place on: its steps in the five lists, or the refusal and the lists as they were.
 pub fn lower_from(
     layouts: &[u32],
     types: u32,
     offsets: &[u32],
     members: &[u32],
     chain: &[u32],
-    l: TypeLayout,
+    l: Place,
     kinds: &mut [u32],
     bytes: &mut [u32],
     bounds: &mut [u32],
@@ -188,7 +187,6 @@ pub fn lower_from(
     }
     let most = arith::smaller(bounds.len(), arith::smaller(marks.len(), indices.len()));
     let room = arith::smaller(kinds.len(), arith::smaller(bytes.len(), most));
-    let place = places::place_of(l);
     struct_part(
         layouts,
         types,
@@ -196,7 +194,7 @@ pub fn lower_from(
         members,
         chain,
         0,
-        place,
+        l,
         Pending::Empty,
         0,
         room,

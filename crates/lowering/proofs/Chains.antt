@@ -13,7 +13,12 @@ use Rattle.shapes.specs.declared.LayoutConfig.{LayoutConfig}
 use Rattle.shapes.specs.declared.TypeLayout.{TypeLayout}
 use Rattle.shapes.specs.declared.Answer as code
 use Rattle.shapes.specs.declared.Answer.the-variants.{Laid, Refused}
-use Rattle.shapes.specs.Spans.{spansOf, layoutBy, answerOver}
+use Rattle.shapes.specs.Spans.{spansOf, layoutBy, answerBy, answerOver}
+use Rattle.shapes.specs.Rows.{answerAt}
+use Rattle.places.specs.declared.Place.{Place}
+use Rattle.places.specs.declared.Found.{Found}
+use Rattle.places.specs.declared.Found.the-variants as found
+use Rattle.places.specs.Places.{placeOf, foundOf}
 use Rattle.layout.specs.Arrays.{Answer, arrayLayout, runtimeParams}
 use Rattle.layout.specs.Layouts.{runtimeArrayBy}
 use Rattle.components.specs.Found.{answersIn}
@@ -24,8 +29,9 @@ use Rattle.lower.specs.Chain.{startLayout, chainBy}
 use Rattle.moves.specs.Moves.{indicesIn}
 use Rattle.moves.specs.Written.{inRoomBehind}
 use Rattle.chain.specs.Chains.{chainFrom, chainOf}
-use Rattle.chain.proofs.Chains.{few-enough}
+use Rattle.chain.proofs.Chains.{few-from}
 use Rattle.pointers.specs.OverTables.{pointeeAt, startBy, chainOver}
+use Rattle.lowering.specs.Starts.{Starts}
 
 -- the runtime array asks for its element alone
 pub by-element : (cfg : LayoutConfig) (answer-of : ℕ → Answer) (t : ℕ) → arrayLayout cfg (λ u. answer-of t) (runtimeParams cfg t Undecorated) ≡ runtimeArrayBy cfg answer-of t
@@ -67,13 +73,32 @@ module _ (room : ℕ) (cfg : LayoutConfig) (n : ℕ) (types layouts offsets memb
       on : over ≡ inRoom room length (answerOver offsets members a >>= λ l. lowerFrom (answersIn layouts n offsets members) l Empty (indicesIn chain))
       on = rw found begun
 
-      pub no-start : (e : ℕ) → a ≡ Refused e → over ≡ refused e
+      no-layout : (e : ℕ) → a ≡ Refused e → over ≡ refused e
       unfolding inRoom _>>=_
-      no-start e h = rw h at on
+      no-layout e h = rw h at on
 
-      pub from-start : (l : TypeLayout) → a ≡ Laid l → over ≡ chainOf room layouts offsets members n l chain
+      from-layout : (l : TypeLayout) → a ≡ Laid l → over ≡ chainOf room layouts offsets members n (placeOf l) chain
       unfolding chainFrom inRoomBehind _>>=_
-      from-start l h =
+      from-layout l h =
           (rw h at on)
           ∙ ap (λ (k : List QPtrOp → ℕ). inRoom room k (lowerFrom (answersIn layouts n offsets members) (layoutBy (spansOf offsets members) l) Empty (indicesIn chain))) (fun-ext λ steps. omega arith)
-          ∙ sym (few-enough room layouts offsets members n l chain few)
+          ∙ sym (few-from room layouts offsets members n l chain few)
+
+    -- by the place that the code found for its start
+    module _ (r : Found) (starts : Starts r (λ f. startBy cfg (pointeeAt types n) (λ u. answerBy f (answerAt layouts n u)) op ptr)) where
+      said : answerOver offsets members (starts .answer) ≡ start
+      said = starts .says .by (spansOf offsets members)
+
+      pub no-start : (e : ℕ) → r ≡ found.Refused e → over ≡ refused e
+      no-start e h = by-answer (starts .answer) said (sym (starts .found) ∙ h)
+        where
+          by-answer : (a : code.Answer) → answerOver offsets members a ≡ start → foundOf a ≡ found.Refused e → over ≡ refused e
+          by-answer (Refused d) g k = no-layout (Refused d) g e (cc)
+          by-answer (Laid l) g k = let z : _≡_ {A = ℕ} 0 1 = cc in absurd (omega arith)
+
+      pub from-start : (l : Place) → r ≡ found.At l → over ≡ chainOf room layouts offsets members n l chain
+      from-start l h = by-answer (starts .answer) said (sym (starts .found) ∙ h)
+        where
+          by-answer : (a : code.Answer) → answerOver offsets members a ≡ start → foundOf a ≡ found.At l → over ≡ chainOf room layouts offsets members n l chain
+          by-answer (Refused d) g k = let z : _≡_ {A = ℕ} 0 1 = cc in absurd (omega arith)
+          by-answer (Laid m) g k = let e : placeOf m ≡ l = cc in rw e at (from-layout (Laid m) g m refl)

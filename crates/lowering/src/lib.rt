@@ -1,27 +1,36 @@
 // Chains lowered from a pointer's type, over tables of types and layouts (try_lower_access_chain of lower.rs).
 use moves::Walk;
+use places::Found;
 use pointers::Pointee;
-use shapes::Answer;
 use shapes::LayoutConfig;
 use spirv::ChainOp;
 ghost use mathlib.Core.Path.{_≡_};
-ghost use Rattle.shapes.specs.Spans.{Says, answerBy};
+ghost use Rattle.shapes.specs.Spans.{answerBy};
 ghost use Rattle.shapes.specs.Rows.{answerAt};
+ghost use Rattle.layout.specs.Layouts.{runtimeArrayBy};
 ghost use Rattle.lower.specs.Chain.{startLayout};
 ghost use Rattle.moves.specs.Written.{Wrote};
 ghost use Rattle.chain.specs.Chains.{roomOf};
 ghost use Rattle.pointers.specs.OverTables.{pointeeAt, startBy, chainOver};
+ghost use Rattle.lowering.specs.Starts.{Starts};
 
-// 65 and 66 start from the pointee, 67 and 70 from an undecorated runtime array of it.
-fn start_layout(cfg: LayoutConfig, layouts: &[u32], n: u32, op: ChainOp, t: u32) -> Answer
-    ensures { λ r. ⌜ Says r (λ f. startLayout cfg (λ u. answerBy f (answerAt (now (layouts .entry)) n u)) op t) ⌝ }
+// 67 and 70 start from an undecorated runtime array of the pointee.
+fn start_array(cfg: LayoutConfig, layouts: &[u32], n: u32, t: u32) -> Found
+    ensures { λ r. ⌜ Starts r (λ f. runtimeArrayBy cfg (λ u. answerBy f (answerAt (now (layouts .entry)) n u)) t) ⌝ }
 {
     let a = shapes::rows::answer_at(layouts, n, t);
+    places::found_of(rules::runtime_array(cfg, t, a))
+}
+
+// 65 and 66 start from the pointee.
+fn start_place(cfg: LayoutConfig, layouts: &[u32], n: u32, op: ChainOp, t: u32) -> Found
+    ensures { λ r. ⌜ Starts r (λ f. startLayout cfg (λ u. answerBy f (answerAt (now (layouts .entry)) n u)) op t) ⌝ }
+{
     match op {
-        ChainOp::AccessChain => a,
-        ChainOp::InBoundsAccessChain => a,
-        ChainOp::PtrAccessChain => rules::runtime_array(cfg, t, a),
-        ChainOp::InBoundsPtrAccessChain => rules::runtime_array(cfg, t, a),
+        ChainOp::AccessChain => places::place_at(layouts, n, t),
+        ChainOp::InBoundsAccessChain => places::place_at(layouts, n, t),
+        ChainOp::PtrAccessChain => start_array(cfg, layouts, n, t),
+        ChainOp::InBoundsPtrAccessChain => start_array(cfg, layouts, n, t),
     }
 }
 
@@ -33,12 +42,12 @@ fn start_at(
     layouts: &[u32],
     op: ChainOp,
     ptr: u32,
-) -> Answer
-    ensures { λ r. ⌜ Says r (λ f. startBy cfg (pointeeAt (now (types .entry)) n) (λ u. answerBy f (answerAt (now (layouts .entry)) n u)) op ptr) ⌝ }
+) -> Found
+    ensures { λ r. ⌜ Starts r (λ f. startBy cfg (pointeeAt (now (types .entry)) n) (λ u. answerBy f (answerAt (now (layouts .entry)) n u)) op ptr) ⌝ }
 {
     match pointers::pointee_at(types, n, ptr) {
-        Pointee::Refused(e) => Answer::Refused(e),
-        Pointee::Type(t) => start_layout(cfg, layouts, n, op, t),
+        Pointee::Refused(e) => Found::Refused(e),
+        Pointee::Type(t) => start_place(cfg, layouts, n, op, t),
     }
 }
 
@@ -68,8 +77,8 @@ pub fn lower_access_chain(
         return Walk::Refused(2);
     }
     match start_at(cfg, n, types, layouts, op, ptr) {
-        Answer::Refused(e) => Walk::Refused(e),
-        Answer::Laid(l) => chain::lower_from(
+        Found::Refused(e) => Walk::Refused(e),
+        Found::At(l) => chain::lower_from(
             layouts,
             n,
             offsets,

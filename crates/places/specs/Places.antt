@@ -14,6 +14,8 @@ use Rattle.places.specs.declared.Place.{Place}
 use Rattle.places.specs.declared.Place.the-variants.{Memory, Buffer, Buffers, Opaque, Opaques}
 use Rattle.places.specs.declared.Found.{Found}
 use Rattle.places.specs.declared.Found.the-variants.{At, Refused}
+use Rattle.places.specs.declared.Parts.{Parts}
+use Rattle.places.specs.declared.Parts.the-variants.{Are, Other}
 
 abbrev pub placeOf : TypeLayout → Place
 placeOf (layout.Handle handle.Opaque) = Opaque
@@ -46,3 +48,8 @@ layoutAt Opaques = layout.HandleArray handle.Opaque 0
 -- words that are memory's, made of parts of this kind
 abbrev pub Parted : (ws : List ℕ) (kind : ℕ) → Type 0
 Parted ws kind = (getD ws 0 0 ≡ 3) × (getD ws 1 0 ≡ 0) × (getD ws 2 0 ≡ kind)
+
+-- parts that are named are the parts of what is found
+abbrev pub Named : Found → Parts → Type 0
+Named f (Are c) = f ≡ At (Memory c)
+Named f Other = Unit {0}

@@ -7,7 +7,7 @@ ghost use mathlib.Core.Path.{_≡_};
 ghost use lib.ListN.{length};
 ghost use Rattle.shapes.specs.Words.{decode};
 ghost use Rattle.shapes.specs.Rows.{answerAt};
-ghost use Rattle.places.specs.Places.{placeOf, foundOf, Parted};
+ghost use Rattle.places.specs.Places.{placeOf, foundOf, Parted, Named};
 
 // Memory by its parts, a buffer or an array of buffers by those of its contents, an opaque handle, an array of these.
 pub enum Place {
@@ -49,47 +49,60 @@ pub fn place_of(l: TypeLayout) -> Place
     }
 }
 
-// The place that a row's words hold, by its layout.
-fn by_layout(ws: &[u32]) -> Found
-    ensures { λ r. ⌜ r ≡ foundOf (decode (now (ws .entry))) ⌝ }
+// The place of what a type answers.
+pub fn found_of(a: Answer) -> Found
+    ensures { λ r. ⌜ r ≡ foundOf a ⌝ }
 {
-    match shapes::words::answer(ws) {
+    match a {
         Answer::Refused(e) => Found::Refused(e),
         Answer::Laid(l) => Found::At(place_of(l)),
     }
 }
 
-// The same where three words hold its parts: memory of the kinds 1, 2 and 3 is no less than its parts.
-fn of_kind(ws: &[u32], kind: u32) -> Found
-    requires { ⌜ (length (now ws) ≡ 10) × Parted (now ws) kind ⌝ }
+// The place that a row's words hold, by its layout.
+fn by_layout(ws: &[u32]) -> Found
     ensures { λ r. ⌜ r ≡ foundOf (decode (now (ws .entry))) ⌝ }
 {
+    found_of(shapes::words::answer(ws))
+}
+
+// The parts of memory that a row names by three words, or that its layout must tell.
+pub enum Parts {
+    Are(Components),
+    Other,
+}
+
+// Memory of the kinds 1, 2 and 3 is no less than its parts.
+fn of_kind(ws: &[u32], kind: u32) -> Parts
+    requires { ⌜ (length (now ws) ≡ 10) × Parted (now ws) kind ⌝ }
+    ensures { λ r. ⌜ Named (foundOf (decode (now (ws .entry)))) r ⌝ }
+{
     if kind == 2 {
-        return Found::At(Place::Memory(Components::Elements {
+        return Parts::Are(Components::Elements {
             stride: ws[7],
             elem: ws[8],
             fixed_len: ws[9],
-        }));
+        });
     }
     if ws[9] != 0 {
-        return by_layout(ws);
+        return Parts::Other;
     }
     if kind == 3 {
-        return Found::At(Place::Memory(Components::Fields {
+        return Parts::Are(Components::Fields {
             start: ws[7],
             count: ws[8],
-        }));
+        });
     }
     if kind != 1 {
-        return by_layout(ws);
+        return Parts::Other;
     }
     if ws[7] != 0 {
-        return by_layout(ws);
+        return Parts::Other;
     }
     if ws[8] != 0 {
-        return by_layout(ws);
+        return Parts::Other;
     }
-    Found::At(Place::Memory(Components::Scalar))
+    Parts::Are(Components::Scalar)
 }
 
 // The same, memory by its parts alone.
@@ -103,7 +116,10 @@ fn by_parts(ws: &[u32]) -> Found
     if ws[1] != 0 {
         return by_layout(ws);
     }
-    of_kind(ws, ws[2])
+    match of_kind(ws, ws[2]) {
+        Parts::Are(c) => Found::At(Place::Memory(c)),
+        Parts::Other => by_layout(ws),
+    }
 }
 
 // The place of type t, of the first n types.

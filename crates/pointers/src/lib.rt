@@ -11,14 +11,16 @@ use spirv::SpvType;
 ghost use Prim.Native.Nat.{ℕ};
 ghost use mathlib.Core.Path.{_≡_};
 ghost use mathlib.Core.List.{List};
+ghost use lib.ListN.{length};
 ghost use Rattle.spirv.specs.Decl.{pointeeOf};
+ghost use Rattle.spirv.specs.Rows.{decodeRow};
 ghost use Rattle.shapes.specs.Spans.{Reading, answerBy, layoutBy, memoryBy, partsBy, spansOf};
 ghost use Rattle.shapes.specs.Rows.{answerAt};
 ghost use Rattle.rules.specs.Rules.{numbered};
 ghost use Rattle.components.specs.Found.{answersIn};
 ghost use Rattle.lower.specs.Steps.{fieldAt};
 ghost use Rattle.lower.specs.Other.{memberOf, runtimeStride, strideOfPart, lengthIn, fixedMemory, variableBy};
-ghost use Rattle.pointers.specs.OverTables.{pointeeAt, lengthOf, lengthOver};
+ghost use Rattle.pointers.specs.OverTables.{pointeeOfRow, pointeeAt, lengthOf, lengthOver};
 ghost use Rattle.pointers.specs.InCode.{asPointee, asField, asLength, asMemory, asVariable};
 
 // ---- the pointee
@@ -50,20 +52,51 @@ fn pointee_of(ty: SpvType) -> Pointee
     }
 }
 
+// The pointee of the type whose row these words are.
+fn by_row(ws: &[u32]) -> Pointee
+    ensures { λ r. ⌜ r ≡ asPointee (pointeeOfRow (decodeRow (now (ws .entry)))) ⌝ }
+{
+    match spirv::decode_row(ws) {
+        RowReading::Broken => Pointee::Refused(1),
+        RowReading::Row(r) => {
+            let ty = r.ty;
+            pointee_of(ty)
+        }
+    }
+}
+
+// The same; a pointer's row is known by its words.
+fn pointee_in(ws: &[u32]) -> Pointee
+    requires { ⌜ length (now ws) ≡ 6 ⌝ }
+    ensures { λ r. ⌜ r ≡ asPointee (pointeeOfRow (decodeRow (now (ws .entry)))) ⌝ }
+{
+    if ws[0] != 80 {
+        return by_row(ws);
+    }
+    if ws[3] != 0 {
+        return by_row(ws);
+    }
+    if ws[4] != 0 {
+        return by_row(ws);
+    }
+    if ws[5] != 0 {
+        return by_row(ws);
+    }
+    Pointee::Type(ws[2])
+}
+
 // The pointee of type ptr, of the first n types; 18 on a type that is no pointer.
 pub fn pointee_at(types: &[u32], n: u32, ptr: u32) -> Pointee
     ensures { λ r. ⌜ r ≡ asPointee (pointeeAt (now (types .entry)) n ptr) ⌝ }
 {
-    if ptr < n {
-        return match spirv::read_row(types, ptr) {
-            RowReading::Broken => Pointee::Refused(1),
-            RowReading::Row(r) => {
-                let ty = r.ty;
-                pointee_of(ty)
-            }
-        };
+    if n <= ptr {
+        return Pointee::Refused(1);
     }
-    Pointee::Refused(1)
+    let at = 6 * ptr as usize;
+    if types.len() < at + 6 {
+        return Pointee::Refused(1);
+    }
+    pointee_in(&types[at..at + 6])
 }
 
 // ---- array length (OpArrayLength)

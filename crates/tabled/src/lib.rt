@@ -117,9 +117,9 @@ pub fn walk_few(
     match ask(table, op, ptr, chain) {
         Asked::Refused(e) => Walk::Refused(e),
         Asked::Chain(o) => {
-            let mut list = [0u32; 32];
-            words::read_words(chain, &mut list);
-            let words = rows::span(&list, 0, (chain.len() / 4) as u32);
+            let mut few = [0u32; 32];
+            words::read_words(chain, &mut few);
+            let words = rows::span(&few, 0, (chain.len() / 4) as u32);
             walk(table, o, ptr, words, kinds, bytes, bounds, marks, indices)
         }
     }
@@ -142,9 +142,9 @@ pub fn walk_many(
     match ask(table, op, ptr, chain) {
         Asked::Refused(e) => Walk::Refused(e),
         Asked::Chain(o) => {
-            let mut list = [0u32; 510];
-            words::read_words(chain, &mut list);
-            let words = rows::span(&list, 0, (chain.len() / 4) as u32);
+            let mut many = [0u32; 510];
+            words::read_words(chain, &mut many);
+            let words = rows::span(&many, 0, (chain.len() / 4) as u32);
             walk(table, o, ptr, words, kinds, bytes, bounds, marks, indices)
         }
     }

@@ -93,11 +93,11 @@ module _ (t : ℕ) where
   struct-finish-requires : struct-lts.Need-finish-requires (struct-calls t) (struct-at t) struct.Post
   struct-finish-requires c κs = omega (arith, c .before .before .before .before .before .before .before .before .before .before .before .before .before .before .before .before .before .before .pre .1 .1)
 
-  struct-enum-known-at : struct-lts.Need-enum-known-at (struct-calls t) (struct-at t) struct.Post
-  struct-enum-known-at c = search needs
+  struct-enum-known-waiting : struct-lts.Need-enum-known-waiting (struct-calls t) (struct-at t) struct.Post
+  struct-enum-known-waiting c = search needs
 
   struct-array-part-requires : struct-lts.Need-array-part-requires (struct-calls t) (struct-at t) struct.Post
-  struct-array-part-requires c κs = let f = falls-of (c .before .before .before .before .before .before .before .before .go-on .ensures) (c .before .before .before .before .before .before .at .given .1) in
+  struct-array-part-requires c κs = let f = falls-of (c .before .before .before .before .before .before .before .before .go-on .ensures) (c .before .before .before .before .before .before .waiting .given .1) in
       (omega (arith, c .before .before .before .before .before .before .before .before .before .before .before .before .before .before .before .before .before .before .pre .0, f .1), ((f .0, c .before .before .before .before .before .before .before .before .before .before .before .before .before .before .before .before .before .before .pre .1 .0 .1), omega (arith, c .before .before .before .before .before .before .before .before .before .before .before .before .before .before .before .before .before .before .pre .1 .1, f .1)))
 
   struct-returns : struct-lts.Need-returns (struct-calls t) (struct-at t) struct.Post
@@ -137,7 +137,7 @@ module _ (t : ℕ) where
   struct-same-length-10 c = search needs
 
   struct-returns-3 : struct-lts.Need-returns-3 (struct-calls t) (struct-at t) struct.Post
-  struct-returns-3 c = rw (ran-of (c .before .before .before .before .before .before .before .before .before .before .before .before .before .before .before .before .before .before .before .go-on .ensures) (c .before .before .before .before .before .before .before .before .before .before .before .before .before .before .before .before .before .at .given .1)) (c .before .before .before .before .before .before .before .before .before .before .array-part .ensures)
+  struct-returns-3 c = rw (ran-of (c .before .before .before .before .before .before .before .before .before .before .before .before .before .before .before .before .before .before .before .go-on .ensures) (c .before .before .before .before .before .before .before .before .before .before .before .before .before .before .before .before .before .waiting .given .1)) (c .before .before .before .before .before .before .before .before .before .before .array-part .ensures)
 
 pub +array-part+struct-part-spec : {M : Type 1} → statement M
 +array-part+struct-part-spec = close μ-array μ-struct
@@ -157,7 +157,7 @@ pub +array-part+struct-part-spec : {M : Type 1} → statement M
     (struct-enum-known-e t)
     (struct-enum-known-q t)
     (struct-finish-requires t)
-    (struct-enum-known-at t)
+    (struct-enum-known-waiting t)
     (struct-array-part-requires t)
     (struct-returns t)
     (struct-same-length t)

@@ -1,9 +1,9 @@
--- `chain::lower_from` meets its contract: 2 before all else, and then the struct part from the layout's place on. Assumes nothing.
+-- `chain::lower_from` meets its contract: 2 before all else, and then the struct part from the place on. Assumes nothing.
 use native.Mathlib.Omega.{arith}
 use denote.Ref.{now}
 use Rattle.chain.specs.Chains.{roomOf}
 use Rattle.moves.proofs.Writes.{refused-wrote}
-use Rattle.chain.proofs.Chains.{weight-most, too-many, few-from}
+use Rattle.chain.proofs.Chains.{weight-most, too-many, few-enough}
 use borrow.Author.Needs.{needs}
 use Rattle.chain.proofs.lower_from.Statement.{statement}
 use Rattle.chain.proofs.lower_from.Tie as tie
@@ -24,11 +24,8 @@ smaller-requires-3 c κs = search needs
 smaller-requires-4 : tie.Need-smaller-requires-4
 smaller-requires-4 c κs = search needs
 
-place-of-requires : tie.Need-place-of-requires
-place-of-requires c κs = search needs
-
 struct-part-requires : tie.Need-struct-part-requires
-struct-part-requires c κs = ((omega arith, omega (arith, c .before .before .before .before .before .before .before .before .before .before .if1 .left)), omega (arith, c .before .before .before .before .before .before .before .before .before .before .if1 .left, weight-most (c .before .before .before .before .before .place-of .result)))
+struct-part-requires c κs = ((omega arith, omega (arith, c .before .before .before .before .before .before .before .before .before .if1 .left)), omega (arith, c .before .before .before .before .before .before .before .before .before .if1 .left, weight-most (c .before .before .before .before .before .before .before .before .before .before .before .before .before .before .before .before .before .before .before .args .l)))
 
 same-length : tie.Need-same-length
 same-length c = search needs
@@ -46,14 +43,13 @@ same-length-5 : tie.Need-same-length-5
 same-length-5 c = search needs
 
 returns-2 : tie.Need-returns-2
-returns-2 c = let a = c .before .before .before .before .before .before .before .before .before .before .before .before .before .before .before .before .before .before .before .before .before .before .before .before .before .before .before .before .before .before .before .args in
+returns-2 c = let a = c .before .before .before .before .before .before .before .before .before .before .before .before .before .before .before .before .before .before .before .before .before .before .before .before .before .before .before .before .before .before .args in
     rw (
-      few-from (roomOf (now (a .kinds)) (now (a .bytes)) (now (a .bounds)) (now (a .marks)) (now (a .indices))) (now (a .layouts)) (now (a .offsets)) (now (a .members)) (a .types) (a .l) (now (a .chain)) (omega (arith, c .before .before .before .before .before .before .before .before .before .before .before .before .before .before .before .before .before .before .before .before .before .if1 .left)),
-      ← c .before .before .before .before .before .before .before .before .before .before .before .before .before .before .before .before .before .before .before .before .smaller .ensures,
-      ← c .before .before .before .before .before .before .before .before .before .before .before .before .before .before .before .before .before .before .before .smaller2 .ensures,
-      ← c .before .before .before .before .before .before .before .before .before .before .before .before .before .before .before .before .before .before .smaller3 .ensures,
-      ← c .before .before .before .before .before .before .before .before .before .before .before .before .before .before .before .before .before .smaller4 .ensures,
-      ← c .before .before .before .before .before .before .before .before .before .before .before .before .before .before .before .before .place-of .ensures,
+      few-enough (roomOf (now (a .kinds)) (now (a .bytes)) (now (a .bounds)) (now (a .marks)) (now (a .indices))) (now (a .layouts)) (now (a .offsets)) (now (a .members)) (a .types) (a .l) (now (a .chain)) (omega (arith, c .before .before .before .before .before .before .before .before .before .before .before .before .before .before .before .before .before .before .before .before .if1 .left)),
+      ← c .before .before .before .before .before .before .before .before .before .before .before .before .before .before .before .before .before .before .before .smaller .ensures,
+      ← c .before .before .before .before .before .before .before .before .before .before .before .before .before .before .before .before .before .before .smaller2 .ensures,
+      ← c .before .before .before .before .before .before .before .before .before .before .before .before .before .before .before .before .before .smaller3 .ensures,
+      ← c .before .before .before .before .before .before .before .before .before .before .before .before .before .before .before .before .smaller4 .ensures,
     ) (c .before .before .before .before .before .before .before .before .before .before .struct-part .ensures)
 
 pub lower-from-spec : {M : Type 1} → statement M
@@ -65,7 +61,6 @@ lower-from-spec =
     smaller-requires-2
     smaller-requires-3
     smaller-requires-4
-    place-of-requires
     struct-part-requires
     same-length
     same-length-2

@@ -1,6 +1,5 @@
 -- `lowering::lower_access_chain` meets its contract: 1 and 2 before all else, then the start, and the walk from it. Assumes nothing.
 use denote.Ref.{now}
-use Rattle.shapes.specs.Spans.{spansOf}
 use Rattle.chain.specs.Chains.{roomOf}
 use Rattle.moves.proofs.Writes.{refused-wrote}
 use Rattle.lowering.proofs.Chains.{no-such, too-long, no-start, from-start}
@@ -32,7 +31,7 @@ lower-from-requires c κs = search needs
 
 returns-3 : tie.Need-returns-3
 returns-3 c = let a = c .before .before .before .before .before .before .before .before .before .before .before .before .before .before .before .before .args in
-    refused-wrote _ _ _ _ _ _ _ _ (no-start _ (a .cfg) (a .n) (now (a .types)) (now (a .layouts)) (now (a .offsets)) (now (a .members)) (a .op) (a .ptr) (now (a .chain)) (c .before .before .before .before .before .if1 .left) (c .before .before .before .before .if2 .left) _ (c .before .before .before .start-at .ensures .by (spansOf (now (a .offsets)) (now (a .members)))) _ (c .before .e .given .1))
+    refused-wrote _ _ _ _ _ _ _ _ (no-start _ (a .cfg) (a .n) (now (a .types)) (now (a .layouts)) (now (a .offsets)) (now (a .members)) (a .op) (a .ptr) (now (a .chain)) (c .before .before .before .before .before .if1 .left) (c .before .before .before .before .if2 .left) _ (c .before .before .before .start-at .ensures) _ (c .before .e .given .1))
 
 same-length : tie.Need-same-length
 same-length c = search needs
@@ -51,7 +50,7 @@ same-length-5 c = search needs
 
 returns-4 : tie.Need-returns-4
 returns-4 c = let a = c .before .before .before .before .before .before .before .before .before .before .before .before .before .before .before .before .before .before .before .before .before .before .before .before .before .before .before .before .before .before .before .before .args in
-    rw (from-start (roomOf (now (a .kinds)) (now (a .bytes)) (now (a .bounds)) (now (a .marks)) (now (a .indices))) (a .cfg) (a .n) (now (a .types)) (now (a .layouts)) (now (a .offsets)) (now (a .members)) (a .op) (a .ptr) (now (a .chain)) (c .before .before .before .before .before .before .before .before .before .before .before .before .before .before .before .before .before .before .before .before .before .if1 .left) (c .before .before .before .before .before .before .before .before .before .before .before .before .before .before .before .before .before .before .before .before .if2 .left) _ (c .before .before .before .before .before .before .before .before .before .before .before .before .before .before .before .before .before .before .before .start-at .ensures .by (spansOf (now (a .offsets)) (now (a .members)))) _ (c .before .before .before .before .before .before .before .before .before .before .before .before .before .before .before .before .before .l .given .1))
+    rw (from-start (roomOf (now (a .kinds)) (now (a .bytes)) (now (a .bounds)) (now (a .marks)) (now (a .indices))) (a .cfg) (a .n) (now (a .types)) (now (a .layouts)) (now (a .offsets)) (now (a .members)) (a .op) (a .ptr) (now (a .chain)) (c .before .before .before .before .before .before .before .before .before .before .before .before .before .before .before .before .before .before .before .before .before .if1 .left) (c .before .before .before .before .before .before .before .before .before .before .before .before .before .before .before .before .before .before .before .before .if2 .left) _ (c .before .before .before .before .before .before .before .before .before .before .before .before .before .before .before .before .before .before .before .start-at .ensures) _ (c .before .before .before .before .before .before .before .before .before .before .before .before .before .before .before .before .before .l .given .1))
     (c .before .before .before .before .before .before .before .before .before .before .lower-from .ensures)
 
 pub lower-access-chain-spec : {M : Type 1} → statement M

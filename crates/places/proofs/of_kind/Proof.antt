@@ -1,5 +1,4 @@
 -- `places::of_kind` meets its contract: words of a kind are those of memory that is made of these parts. Assumes nothing.
-use mathlib.Core.Path.{sym}
 use native.Mathlib.Omega.{arith}
 use denote.Ref.{now}
 use Rattle.places.proofs.Rows.{of-elements, of-fields, of-scalar}
@@ -17,28 +16,22 @@ shared-slice-read-t9 : tie.Need-shared-slice-read-t9
 shared-slice-read-t9 c = search needs
 
 returns : tie.Need-returns
-returns c = sym (of-elements (now (c .before .before .before .before .before .args .ws)) (c .before .before .before .before .before .pre .0) (c .before .before .before .before .before .pre .1 .0) (c .before .before .before .before .before .pre .1 .1) (omega (arith, c .before .before .before .before .before .pre .1 .2, c .before .before .before .if1 .taken)))
+returns c = of-elements (now (c .before .before .before .before .args .ws)) (c .before .before .before .before .pre .0) (c .before .before .before .before .pre .1 .0) (c .before .before .before .before .pre .1 .1) (omega (arith, c .before .before .before .before .pre .1 .2, c .before .before .before .if1 .taken))
 
 shared-slice-read-if2 : tie.Need-shared-slice-read-if2
 shared-slice-read-if2 c = search needs
 
-by-layout-requires : tie.Need-by-layout-requires
-by-layout-requires c κs = search needs
-
 returns-2 : tie.Need-returns-2
 returns-2 c = search needs
 
-shared-slice-read-t15 : tie.Need-shared-slice-read-t15
-shared-slice-read-t15 c = search needs
+shared-slice-read-t14 : tie.Need-shared-slice-read-t14
+shared-slice-read-t14 c = search needs
 
-shared-slice-read-t17 : tie.Need-shared-slice-read-t17
-shared-slice-read-t17 c = search needs
+shared-slice-read-t16 : tie.Need-shared-slice-read-t16
+shared-slice-read-t16 c = search needs
 
 returns-3 : tie.Need-returns-3
-returns-3 c = sym (of-fields (now (c .before .before .before .before .before .before .before .args .ws)) (c .before .before .before .before .before .before .before .pre .0) (c .before .before .before .before .before .before .before .pre .1 .0) (c .before .before .before .before .before .before .before .pre .1 .1) (omega (arith, c .before .before .before .before .before .before .before .pre .1 .2, c .before .before .if3 .taken)) (omega (arith, c .before .before .before .if2 .left)))
-
-by-layout-requires-2 : tie.Need-by-layout-requires-2
-by-layout-requires-2 c κs = search needs
+returns-3 c = of-fields (now (c .before .before .before .before .before .before .args .ws)) (c .before .before .before .before .before .before .pre .0) (c .before .before .before .before .before .before .pre .1 .0) (c .before .before .before .before .before .before .pre .1 .1) (omega (arith, c .before .before .before .before .before .before .pre .1 .2, c .before .before .if3 .taken)) (omega (arith, c .before .before .before .if2 .left))
 
 returns-4 : tie.Need-returns-4
 returns-4 c = search needs
@@ -46,23 +39,17 @@ returns-4 c = search needs
 shared-slice-read-if5 : tie.Need-shared-slice-read-if5
 shared-slice-read-if5 c = search needs
 
-by-layout-requires-3 : tie.Need-by-layout-requires-3
-by-layout-requires-3 c κs = search needs
-
 returns-5 : tie.Need-returns-5
 returns-5 c = search needs
 
 shared-slice-read-if6 : tie.Need-shared-slice-read-if6
 shared-slice-read-if6 c = search needs
 
-by-layout-requires-4 : tie.Need-by-layout-requires-4
-by-layout-requires-4 c κs = search needs
-
 returns-6 : tie.Need-returns-6
 returns-6 c = search needs
 
 returns-7 : tie.Need-returns-7
-returns-7 c = sym (of-scalar (now (c .before .before .before .before .before .before .before .before .before .before .args .ws)) (c .before .before .before .before .before .before .before .before .before .before .pre .0) (c .before .before .before .before .before .before .before .before .before .before .pre .1 .0) (c .before .before .before .before .before .before .before .before .before .before .pre .1 .1) (omega (arith, c .before .before .before .before .before .before .before .before .before .before .pre .1 .2, c .before .before .before .before .if4 .left)) (omega (arith, c .before .before .if5 .left)) (omega (arith, c .if6 .left)) (omega (arith, c .before .before .before .before .before .before .if2 .left)))
+returns-7 c = of-scalar (now (c .before .before .before .before .before .before .before .before .before .args .ws)) (c .before .before .before .before .before .before .before .before .before .pre .0) (c .before .before .before .before .before .before .before .before .before .pre .1 .0) (c .before .before .before .before .before .before .before .before .before .pre .1 .1) (omega (arith, c .before .before .before .before .before .before .before .before .before .pre .1 .2, c .before .before .before .before .if4 .left)) (omega (arith, c .before .before .if5 .left)) (omega (arith, c .if6 .left)) (omega (arith, c .before .before .before .before .before .before .if2 .left))
 
 pub of-kind-spec : {M : Type 1} → statement M
 of-kind-spec =
@@ -73,17 +60,13 @@ of-kind-spec =
     shared-slice-read-t9
     returns
     shared-slice-read-if2
-    by-layout-requires
     returns-2
-    shared-slice-read-t15
-    shared-slice-read-t17
+    shared-slice-read-t14
+    shared-slice-read-t16
     returns-3
-    by-layout-requires-2
     returns-4
     shared-slice-read-if5
-    by-layout-requires-3
     returns-5
     shared-slice-read-if6
-    by-layout-requires-4
     returns-6
     returns-7)

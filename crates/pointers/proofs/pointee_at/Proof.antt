@@ -1,45 +1,68 @@
 -- `pointers::pointee_at` meets its contract: by the type's row, if there is one. Assumes nothing.
+use native.Mathlib.Omega.{arith}
+use native.Mathlib.Nat.{add-sub-cancel-left}
+use Prim.Native.Nat.{_*_}
+use lib.ListN.{drop, length-take, length-drop, take}
+use denote.Ref.{now}
 use borrow.Author.Tests.{lt-ltb, le-ltb}
+use Rattle.spirv.specs.Rows.{rowAt}
+use Rattle.spirv.proofs.Rows.{row-short}
 use Rattle.pointers.specs.OverTables.{pointeeAt}
 use Rattle.pointers.specs.InCode.{asPointee}
 use borrow.Author.Needs.{needs}
 use Rattle.pointers.proofs.pointee_at.Statement.{statement}
 use Rattle.pointers.proofs.pointee_at.Tie as tie
-use Rattle.pointers.proofs.pointee_of.Reads as pointee-of-reads
-use Rattle.spirv.proofs.read_row.Reads as read-row-reads
-
-read-row-requires : tie.Need-read-row-requires
-read-row-requires c κs = search needs
-
-enum-told : tie.Need-enum-told
-enum-told c = search needs
-
-enum-known-r : tie.Need-enum-known-r
-enum-known-r c = search needs
-
-pointee-of-requires : tie.Need-pointee-of-requires
-pointee-of-requires c κs = search needs
 
 returns : tie.Need-returns
 unfolding pointeeAt asPointee
-returns c = rw (lt-ltb _ _ (c .before .before .before .if1 .taken), ← c .before .before .read-row .ensures, c .enum-told .given .1)
+returns c = rw (le-ltb _ _ (c .if1 .taken))
+
+mul-at : tie.Need-mul-at
+mul-at c = search needs
+
+add-if2 : tie.Need-add-if2
+add-if2 c = search needs
 
 returns-2 : tie.Need-returns-2
-unfolding pointeeAt
-returns-2 c = rw (lt-ltb _ _ (c .before .before .before .before .before .if1 .taken), ← c .before .before .before .before .read-row .ensures, c .before .before .r .given .1) (c .pointee-of .ensures)
+unfolding pointeeAt rowAt asPointee
+returns-2 c = let a = c .before .before .before .args in
+    let l = drop (6 * a .ptr) (now (a .types)) in
+    rw (lt-ltb _ _ (c .before .if1 .left), row-short (take 6 l) (λ e. omega (arith, length-take 6 l, length-drop (6 * a .ptr) (now (a .types)))))
+
+add-pointee-in : tie.Need-add-pointee-in
+add-pointee-in c = search needs
+
+mul-pointee-in : tie.Need-mul-pointee-in
+mul-pointee-in c = search needs
+
+sub-pointee-in : tie.Need-sub-pointee-in
+sub-pointee-in c = search needs
+
+part-pointee-in-start : tie.Need-part-pointee-in-start
+part-pointee-in-start c = search needs
+
+part-pointee-in-end : tie.Need-part-pointee-in-end
+part-pointee-in-end c = search needs
+
+pointee-in-requires : tie.Need-pointee-in-requires
+pointee-in-requires c κs = search needs
 
 returns-3 : tie.Need-returns-3
-unfolding pointeeAt asPointee
-returns-3 c = rw (le-ltb _ _ (c .if1 .left))
+unfolding pointeeAt rowAt
+returns-3 c = rw (lt-ltb _ _ (c .before .before .before .if1 .left)) (rw add-sub-cancel-left at (c .pointee-in .ensures))
 
 pub pointee-at-spec : {M : Type 1} → statement M
 pointee-at-spec =
     tie.close
     (tie.spec
-    read-row-requires
-    enum-told
-    enum-known-r
-    pointee-of-requires
     returns
+    mul-at
+    add-if2
     returns-2
+    add-pointee-in
+    mul-pointee-in
+    sub-pointee-in
+    part-pointee-in-start
+    part-pointee-in-end
+    pointee-in-requires
     returns-3)
