@@ -1,4 +1,5 @@
 pub mod Opened
+pub mod Small
 pub mod Corners
 pub mod Document
 pub mod Form
