@@ -85,13 +85,13 @@ module _ (table : List ℕ) (op ptr : ℕ) (s : List ℕ) where
       subst (λ (r : Result (List QPtrOp)). length (stepsOf r) ≤ room) (sym (in-lists table op ptr s room places few many)) (steps-within room (walkIn places table op ptr s))
     where
       places : ℕ
-      places = cond (leb (length s) 128) 17 256
+      places = cond (leb (length s) 64) 9 256
 
-      few : length s ≤ 128 → places ≡ 17
-      few h = ap (λ (b : Bool). cond {A = ℕ} b 17 256) (le-leb (length s) 128 h)
+      few : length s ≤ 64 → places ≡ 9
+      few h = ap (λ (b : Bool). cond {A = ℕ} b 9 256) (le-leb (length s) 64 h)
 
-      many : 128 < length s → places ≡ 256
-      many h = ap (λ (b : Bool). cond {A = ℕ} b 17 256) (lt-leb (length s) 128 h)
+      many : 64 < length s → places ≡ 256
+      many h = ap (λ (b : Bool). cond {A = ℕ} b 9 256) (lt-leb (length s) 64 h)
 
 -- ---- the records of a walk
 
@@ -156,7 +156,7 @@ fit-within size room w e most = rw e (by w most)
     by (Refused n) h = zero-le
 
 -- of a walk in lists of the code's own
-pub of-chain : (size : ℕ) (table : List ℕ) (op ptr : ℕ) (s : List ℕ) (room : ℕ) (few : length s ≤ 128 → size ≡ 17) (many : 128 < length s → size ≡ 256)
+pub of-chain : (size : ℕ) (table : List ℕ) (op ptr : ℕ) (s : List ℕ) (room : ℕ) (few : length s ≤ 64 → size ≡ 9) (many : 64 < length s → size ≡ 256)
     {w : Walk} {ks bs ls ms is ks′ bs′ ls′ ms′ is′ : List ℕ} → Wrote 0 (walkIn size table op ptr s) w ks bs ls ms is ks′ bs′ ls′ ms′ is′ → size ≤ roomOf ks bs ls ms is
     → {l : List QPtrChainStep} {n : ℕ} {answer : ℤ} → Holds size (inRoom room length (heldBy w ks′ bs′ ls′ ms′ is′)) l n answer → Holds size (chainIn room table op ptr s) l n answer
 of-chain size table op ptr s room few many x wide {l} {n} {answer} h =

@@ -113,11 +113,11 @@ fn fit_in(room: usize, w: Walk) -> Fit
     }
 }
 
-// ---- at most 16 indices
+// ---- at most 8 indices
 
 // The records of a chain by value, how many are written, and the answer.
 pub struct Short {
-    pub steps: [QPtrChainStep; 17],
+    pub steps: [QPtrChainStep; 9],
     pub n: usize,
     pub answer: i64,
 }
@@ -132,8 +132,8 @@ fn short_of(
     marks: &[u32],
     indices: &[u32],
 ) -> Short
-    requires { ⌜ AtMost 17 w ⌝ }
-    ensures { λ r. ⌜ Holds 17 (inRoom room length (heldBy w (now (kinds .entry)) (now (bytes .entry)) (now (bounds .entry)) (now (marks .entry)) (now (indices .entry)))) (r .steps) (r .n) (r .answer) ⌝ }
+    requires { ⌜ AtMost 9 w ⌝ }
+    ensures { λ r. ⌜ Holds 9 (inRoom room length (heldBy w (now (kinds .entry)) (now (bytes .entry)) (now (bounds .entry)) (now (marks .entry)) (now (indices .entry)))) (r .steps) (r .n) (r .answer) ⌝ }
 {
     let none = QPtrChainStep {
         op: 0,
@@ -146,7 +146,7 @@ fn short_of(
     let f = fit_in(room, w);
     let n = f.n;
     let mut p = Short {
-        steps: [none; 17],
+        steps: [none; 9],
         n: f.n,
         answer: f.answer,
     };
@@ -160,14 +160,14 @@ fn short_of(
 }
 
 fn short_chain<'a>(room: usize, op: u32, ptr: u32, table: &'a [u32], chain: &'a [u8]) -> Short
-    requires { ⌜ length (now chain) ≤ 128 ⌝ }
-    ensures { λ r. ⌜ Holds 17 (chainIn room (now (table .entry)) op ptr (now (chain .entry))) (r .steps) (r .n) (r .answer) ⌝ }
+    requires { ⌜ length (now chain) ≤ 64 ⌝ }
+    ensures { λ r. ⌜ Holds 9 (chainIn room (now (table .entry)) op ptr (now (chain .entry))) (r .steps) (r .n) (r .answer) ⌝ }
 {
-    let mut kinds = [0u32; 17];
-    let mut bytes = [0u32; 17];
-    let mut bounds = [0u32; 17];
-    let mut marks = [0u32; 17];
-    let mut indices = [0u32; 17];
+    let mut kinds = [0u32; 9];
+    let mut bytes = [0u32; 9];
+    let mut bounds = [0u32; 9];
+    let mut marks = [0u32; 9];
+    let mut indices = [0u32; 9];
     let w = tabled::walk_few(
         table,
         op,
@@ -190,7 +190,7 @@ fn write_short<'s, 'a>(
     table: &'a [u32],
     chain: &'a [u8],
 ) -> i64
-    requires { ⌜ length (now chain) ≤ 128 ⌝ }
+    requires { ⌜ length (now chain) ≤ 64 ⌝ }
     ensures { λ r. ⌜ Recorded (chainIn (length (now (steps .entry))) (now (table .entry)) op ptr (now (chain .entry))) r (now (steps .entry)) (now (steps .exit)) ⌝ }
 {
     let p = short_chain(steps.len(), op, ptr, table, chain);
@@ -250,7 +250,7 @@ fn long_of(
 }
 
 fn long_chain<'a>(room: usize, op: u32, ptr: u32, table: &'a [u32], chain: &'a [u8]) -> Long
-    requires { ⌜ 128 < length (now chain) ⌝ }
+    requires { ⌜ 64 < length (now chain) ⌝ }
     ensures { λ r. ⌜ Holds 256 (chainIn room (now (table .entry)) op ptr (now (chain .entry))) (r .steps) (r .n) (r .answer) ⌝ }
 {
     let mut kinds = [0u32; 256];
@@ -280,7 +280,7 @@ fn write_long<'s, 'a>(
     table: &'a [u32],
     chain: &'a [u8],
 ) -> i64
-    requires { ⌜ 128 < length (now chain) ⌝ }
+    requires { ⌜ 64 < length (now chain) ⌝ }
     ensures { λ r. ⌜ Recorded (chainIn (length (now (steps .entry))) (now (table .entry)) op ptr (now (chain .entry))) r (now (steps .entry)) (now (steps .exit)) ⌝ }
 {
     let p = long_chain(steps.len(), op, ptr, table, chain);
@@ -305,7 +305,7 @@ pub fn lower_access_chain<'s, 'a>(
 ) -> i64
     ensures { λ r. ⌜ Recorded (chainIn (length (now (steps .entry))) (now (table .entry)) op ptr (now (chain .entry))) r (now (steps .entry)) (now (steps .exit)) ⌝ }
 {
-    if chain.len() <= 128 {
+    if chain.len() <= 64 {
         return write_short(steps, op, ptr, table, chain);
     }
     write_long(steps, op, ptr, table, chain)

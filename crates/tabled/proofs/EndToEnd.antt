@@ -52,10 +52,10 @@ wider p room (ok x) h = by (ltb room (length x)) refl
     by false e = let g = ltb-false room (length x) e in let k = h x refl in rw (e, le-ltb (min p room) (length x) (omega arith))
 
 enough-places : (k : ℕ) → k ≤ max-indices → suc k ≤ places k
-enough-places k h = by (leb k 16) refl
+enough-places k h = by (leb k 8) refl
   where
-    by : (b : Bool) → leb k 16 ≡ b → suc k ≤ places k
-    by true e = let g = leb-true k 16 e in rw e (omega arith)
+    by : (b : Bool) → leb k 8 ≡ b → suc k ≤ places k
+    by true e = let g = leb-true k 8 e in rw e (omega arith)
     by false e = rw e (omega arith)
 
 no-pointee : (cfg : LayoutConfig) (types : List ℕ) (n : ℕ) (answer-of : ℕ → Answer) (o : ChainOp) (ptr : ℕ) (is : List Index) → ltb ptr n ≡ false

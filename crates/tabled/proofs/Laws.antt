@@ -251,12 +251,12 @@ module _ (table : List ℕ) (op ptr : ℕ) (s : List ℕ) where
   steps-by room o h p e = let g = was-asked o h in g .at-op room ∙ at-table room table o ptr s (g .formed) (g .there) (g .few) p e
 
 -- which places, by the bytes of the indices
-pub short : (s : List ℕ) → length s ≤ 128 → places (length s / 8) ≡ 17
-short s h = ap (λ (b : Bool). cond {A = ℕ} b 17 256) (le-leb (length s / 8) 16 (omega arith))
+pub short : (s : List ℕ) → length s ≤ 64 → places (length s / 8) ≡ 9
+short s h = ap (λ (b : Bool). cond {A = ℕ} b 9 256) (le-leb (length s / 8) 8 (omega arith))
 
 module _ (table : List ℕ) (op ptr : ℕ) (s : List ℕ) {o : ChainOp} (h : askedIn table op ptr s ≡ ok o) where
-  pub long : 128 < length s → places (length s / 8) ≡ 256
-  long g = let e = even s (was-asked table op ptr s o h .formed) in ap (λ (b : Bool). cond {A = ℕ} b 17 256) (lt-leb (length s / 8) 16 (omega arith))
+  pub long : 64 < length s → places (length s / 8) ≡ 256
+  long g = let e = even s (was-asked table op ptr s o h .formed) in ap (λ (b : Bool). cond {A = ℕ} b 9 256) (lt-leb (length s / 8) 8 (omega arith))
 
   pub at-most : length s ≤ 2040
   at-most = let w = was-asked table op ptr s o h in omega (arith, even s (w .formed), w .few)
@@ -295,16 +295,16 @@ module _ (table : List ℕ) (op ptr : ℕ) (s : List ℕ) where
   refused-in room e = refl
 
   -- what the caller gets of it
-  pub in-lists : (room p : ℕ) → (length s ≤ 128 → p ≡ 17) → (128 < length s → p ≡ 256) → chainIn room table op ptr s ≡ inRoom room length (walkIn p table op ptr s)
+  pub in-lists : (room p : ℕ) → (length s ≤ 64 → p ≡ 9) → (64 < length s → p ≡ 256) → chainIn room table op ptr s ≡ inRoom room length (walkIn p table op ptr s)
   in-lists room p few many = by (askedIn table op ptr s) refl
     where
       by : (a : Result ChainOp) → askedIn table op ptr s ≡ a → chainIn room table op ptr s ≡ inRoom room length (walkIn p table op ptr s)
       by (refused e) h = was-refused table op ptr s room e h ∙ sym (refused-in room e) ∙ ap (inRoom room length) (sym (walk-refused p e h))
-      by (ok o) h = steps-by table op ptr s room o h p (size (ltb 128 (length s)) refl) ∙ ap (inRoom room length) (sym (walk-chain p o h))
+      by (ok o) h = steps-by table op ptr s room o h p (size (ltb 64 (length s)) refl) ∙ ap (inRoom room length) (sym (walk-chain p o h))
         where
-          size : (b : Bool) → ltb 128 (length s) ≡ b → places (length s / 8) ≡ p
-          size true e = let g = ltb-true 128 (length s) e in long table op ptr s h g ∙ sym (many g)
-          size false e = let g = ltb-false 128 (length s) e in short s g ∙ sym (few g)
+          size : (b : Bool) → ltb 64 (length s) ≡ b → places (length s / 8) ≡ p
+          size true e = let g = ltb-true 64 (length s) e in long table op ptr s h g ∙ sym (many g)
+          size false e = let g = ltb-false 64 (length s) e in short s g ∙ sym (few g)
 
   pub held-in : (room : ℕ) {w : Walk} {ks bs ls ms is ks′ bs′ ls′ ms′ is′ : List ℕ} → Wrote 0 (walkIn room table op ptr s) w ks bs ls ms is ks′ bs′ ls′ ms′ is′
       → room ≤ roomOf ks bs ls ms is → heldBy w ks′ bs′ ls′ ms′ is′ ≡ walkIn room table op ptr s

@@ -57,9 +57,9 @@ askedOf (refused e) = asked.Refused e
 
 -- ---- the steps
 
--- so many steps are kept for so many indices: one more than there are, or than 16 or 255; no sheet's table has more
+-- so many steps are kept for so many indices: one more than there are, or than 8 or 255; no sheet's table has more
 abbrev pub places : (indices : ℕ) → ℕ
-places indices = cond (leb indices 16) 17 256
+places indices = cond (leb indices 8) 9 256
 
 -- 1 where there is no such type, 2 for more than 255 indices, then the chain's own refusals, and 24
 unfoldable pub chainAt : (room : ℕ) → (table : List ℕ) → ChainOp → (ptr : ℕ) → List Index → Result (List QPtrOp)

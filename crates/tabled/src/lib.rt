@@ -99,7 +99,7 @@ pub fn walk(
     )
 }
 
-// The steps of what is asked into five lists, by at most 16 indices: few words are cleared for them.
+// The steps of what is asked into five lists, by at most 8 indices: few words are cleared for them.
 pub fn walk_few(
     table: &[u32],
     op: u32,
@@ -111,13 +111,13 @@ pub fn walk_few(
     marks: &mut [u32],
     indices: &mut [u32],
 ) -> Walk
-    requires { ⌜ length (now chain) ≤ 128 ⌝ }
+    requires { ⌜ length (now chain) ≤ 64 ⌝ }
     ensures { λ r. ⌜ Wrote 0 (walkIn (roomOf (now (kinds .entry)) (now (bytes .entry)) (now (bounds .entry)) (now (marks .entry)) (now (indices .entry))) (now (table .entry)) op ptr (now (chain .entry))) r (now (kinds .entry)) (now (bytes .entry)) (now (bounds .entry)) (now (marks .entry)) (now (indices .entry)) (now (kinds .exit)) (now (bytes .exit)) (now (bounds .exit)) (now (marks .exit)) (now (indices .exit)) ⌝ }
 {
     match ask(table, op, ptr, chain) {
         Asked::Refused(e) => Walk::Refused(e),
         Asked::Chain(o) => {
-            let mut few = [0u32; 32];
+            let mut few = [0u32; 16];
             words::read_words(chain, &mut few);
             let words = rows::span(&few, 0, (chain.len() / 4) as u32);
             walk(table, o, ptr, words, kinds, bytes, bounds, marks, indices)
@@ -176,16 +176,16 @@ fn put(
     }
 }
 
-// At most 16 indices: little is cleared for them.
+// At most 8 indices: little is cleared for them.
 fn lower_few(table: &[u32], op: u32, ptr: u32, chain: &[u8], out: &mut [u8]) -> Walk
-    requires { ⌜ length (now chain) ≤ 128 ⌝ }
-    ensures { λ r. ⌜ Lowered (inRoom (roomIn (now (out .entry))) length (walkIn 17 (now (table .entry)) op ptr (now (chain .entry)))) r (now (out .entry)) (now (out .exit)) ⌝ }
+    requires { ⌜ length (now chain) ≤ 64 ⌝ }
+    ensures { λ r. ⌜ Lowered (inRoom (roomIn (now (out .entry))) length (walkIn 9 (now (table .entry)) op ptr (now (chain .entry)))) r (now (out .entry)) (now (out .exit)) ⌝ }
 {
-    let mut kinds = [0u32; 17];
-    let mut bytes = [0u32; 17];
-    let mut bounds = [0u32; 17];
-    let mut marks = [0u32; 17];
-    let mut indices = [0u32; 17];
+    let mut kinds = [0u32; 9];
+    let mut bytes = [0u32; 9];
+    let mut bounds = [0u32; 9];
+    let mut marks = [0u32; 9];
+    let mut indices = [0u32; 9];
     let w = walk_few(
         table,
         op,
@@ -227,7 +227,7 @@ fn lower_many(table: &[u32], op: u32, ptr: u32, chain: &[u8], out: &mut [u8]) ->
 pub fn lower_chain(table: &[u32], op: u32, ptr: u32, chain: &[u8], out: &mut [u8]) -> Walk
     ensures { λ r. ⌜ Lowered (chainIn (roomIn (now (out .entry))) (now (table .entry)) op ptr (now (chain .entry))) r (now (out .entry)) (now (out .exit)) ⌝ }
 {
-    if chain.len() <= 128 {
+    if chain.len() <= 64 {
         return lower_few(table, op, ptr, chain, out);
     }
     lower_many(table, op, ptr, chain, out)

@@ -120,7 +120,7 @@ module _ {M : Type 1} (𝓤 : URA M) (H : Heap 𝓤) (A : Atoms 𝓤) (W : Given
     abbrev to-short : Short .Ghost
     to-short = (((κ, (κ′, tt)), (q, (q′, tt)), tt, x, at), tt)
 
-    goes-short : length (xs .1 .0 .now) ≤ 128 → ent 𝓤 (sep 𝓤 (sep 𝓤 (A .lft κ q) (sep 𝓤 (A .lft κ′ q′) (sem 𝓤 H A ftrue))) (sep 𝓤 (sem 𝓤 H A Own) (sem 𝓤 H A Lists))) (Short .pre to-short)
+    goes-short : length (xs .1 .0 .now) ≤ 64 → ent 𝓤 (sep 𝓤 (sep 𝓤 (A .lft κ q) (sep 𝓤 (A .lft κ′ q′) (sem 𝓤 H A ftrue))) (sep 𝓤 (sem 𝓤 H A Own) (sem 𝓤 H A Lists))) (Short .pre to-short)
     goes-short few =
         qed W (Tokens ∷ ‵ Own ∷ ‵ Lists ∷ []) ∵ says ! few $ frame ! $ owned ! u32 (Is u32) (uint-makes 𝓤 H A W w32) ptr _ (refl, ptr-fits) $ move ! (0 ∷ 2 ∷ []) $ fjoin ! $
         owned ! u32 (Is u32) (uint-makes 𝓤 H A W w32) op _ (refl, op-fits) $ fjoin ! $ move ! (1 ∷ 0 ∷ []) $ fjoin ! $ done !
@@ -128,7 +128,7 @@ module _ {M : Type 1} (𝓤 : URA M) (H : Heap 𝓤) (A : Atoms 𝓤) (W : Given
     abbrev to-long : Long .Ghost
     to-long = (((κ, (κ′, tt)), (q, (q′, tt)), tt, x, at), tt)
 
-    goes-long : 128 < length (xs .1 .0 .now) → ent 𝓤 (sep 𝓤 (sep 𝓤 (A .lft κ q) (sep 𝓤 (A .lft κ′ q′) (sem 𝓤 H A ftrue))) (sep 𝓤 (sem 𝓤 H A Own) (sem 𝓤 H A Lists))) (Long .pre to-long)
+    goes-long : 64 < length (xs .1 .0 .now) → ent 𝓤 (sep 𝓤 (sep 𝓤 (A .lft κ q) (sep 𝓤 (A .lft κ′ q′) (sem 𝓤 H A ftrue))) (sep 𝓤 (sem 𝓤 H A Own) (sem 𝓤 H A Lists))) (Long .pre to-long)
     goes-long many =
         qed W (Tokens ∷ ‵ Own ∷ ‵ Lists ∷ []) ∵ says ! many $ frame ! $ owned ! u32 (Is u32) (uint-makes 𝓤 H A W w32) ptr _ (refl, ptr-fits) $ move ! (0 ∷ 2 ∷ []) $ fjoin ! $
         owned ! u32 (Is u32) (uint-makes 𝓤 H A W w32) op _ (refl, op-fits) $ fjoin ! $ move ! (1 ∷ 0 ∷ []) $ fjoin ! $ done !
@@ -167,7 +167,7 @@ module _ {M : Type 1} (𝓤 : URA M) (H : Heap 𝓤) (A : Atoms 𝓤) (W : Given
         (λ held.
         assigns ! (addr ! (from ! (fld ! refl (hop ! (look-in ! 24 (sub ! 0 refl (whole !))) (stop !))))) (from ! (stop !)) (init ! 10 refl (tt, tt)) $
         assigns ! (agg ! (and-then ! (load ! (from ! (stop !)) (look ! 10 refl)) (and-then ! (load ! (from ! (fld ! refl (stop !))) (look-in ! 24 (sub ! 1 refl (whole !)))) (no-more !)))) (from ! (stop !)) (init ! 8 refl (tt, (tt, (record { fits = room .0 }, tt)))) $
-        use3 W (raw (Short .pre to-short)) (goes-short (leb→le (length (xs .1 .0 .now)) 128 held)) $
+        use3 W (raw (Short .pre to-short)) (goes-short (leb→le (length (xs .1 .0 .now)) 64 held)) $
         calls-at ! (fmOf 𝓤 H (W .laws) 𝓣) Short known-short to-short
         (and-then ! (load ! (from ! (stop !)) (look ! 6 refl)) (and-then ! (load ! (from ! (stop !)) (look ! 20 refl)) (and-then ! (load ! (from ! (stop !)) (look ! 18 refl)) (and-then ! (load ! (from ! (stop !)) (look ! 16 refl)) (and-then ! (load ! (from ! (stop !)) (look ! 14 refl)) (no-more !)))))) (λ w.
         use1 W (later (some (λ (z : ℤ). (Tokens ⊛ ‵ (SInt w64 .own z (w ∷ []))) ⊛ raw (ensured 𝓤 H A write-short.ended (write-short.clauses 𝓤 H A at-mem run) (κ, (κ′, tt)) x tt z)))) (id⊢ 𝓤 _) $ await ! tt $ pick ! (λ z. split ! $ move ! (1 ∷ []) $
@@ -180,7 +180,7 @@ module _ {M : Type 1} (𝓤 : URA M) (H : Heap 𝓤) (A : Atoms 𝓤) (W : Given
         (λ fails. skips ! $ exec ! (𝓣 .C) (𝓣 .Λ) (En 𝓣 l₀ l₁ l₂ l₃ l₄ l₅ l₆ l₇ l₈ l₉ l₁₀ l₁₁) body.t-4 (atRet (En 𝓣 l₀ l₁ l₂ l₃ l₄ l₅ l₆ l₇ l₈ l₉ l₁₀ l₁₁) Post) $
         assigns ! (addr ! (from ! (fld ! refl (hop ! (look-in ! 24 (sub ! 0 refl (whole !))) (stop !))))) (from ! (stop !)) (init ! 6 refl (tt, tt)) $
         assigns ! (agg ! (and-then ! (load ! (from ! (stop !)) (look ! 6 refl)) (and-then ! (load ! (from ! (fld ! refl (stop !))) (look-in ! 24 (sub ! 1 refl (whole !)))) (no-more !)))) (from ! (stop !)) (init ! 4 refl (tt, (tt, (record { fits = room .0 }, tt)))) $
-        use3 W (raw (Long .pre to-long)) (goes-long (nleb→lt (length (xs .1 .0 .now)) 128 fails)) $
+        use3 W (raw (Long .pre to-long)) (goes-long (nleb→lt (length (xs .1 .0 .now)) 64 fails)) $
         calls-at ! (fmOf 𝓤 H (W .laws) 𝓣) Long known-long to-long
         (and-then ! (load ! (from ! (stop !)) (look ! 2 refl)) (and-then ! (load ! (from ! (stop !)) (look ! 20 refl)) (and-then ! (load ! (from ! (stop !)) (look ! 18 refl)) (and-then ! (load ! (from ! (stop !)) (look ! 16 refl)) (and-then ! (load ! (from ! (stop !)) (look ! 14 refl)) (no-more !)))))) (λ w.
         use1 W (later (some (λ (z : ℤ). (Tokens ⊛ ‵ (SInt w64 .own z (w ∷ []))) ⊛ raw (ensured 𝓤 H A write-long.ended (write-long.clauses 𝓤 H A at-mem run) (κ, (κ′, tt)) x tt z)))) (id⊢ 𝓤 _) $ await ! tt $ pick ! (λ z. split ! $ move ! (1 ∷ []) $

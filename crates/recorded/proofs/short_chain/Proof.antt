@@ -54,11 +54,11 @@ slice-aggregate-short-of-5 c = search needs
 
 -- src/lib.rt:182:5
 short-of-requires : tie.Need-short-of-requires
-short-of-requires c κs = subst (AtMost 17) (sym (c .before .before .before .before .before .before .before .before .before .before .walk-few .ensures .says)) (at-most-in (now (c .before .before .before .before .before .before .before .before .before .before .before .before .before .before .before .before .before .before .args .table)) (c .before .before .before .before .before .before .before .before .before .before .before .before .before .before .before .before .before .before .args .op) (c .before .before .before .before .before .before .before .before .before .before .before .before .before .before .before .before .before .before .args .ptr) (now (c .before .before .before .before .before .before .before .before .before .before .before .before .before .before .before .before .before .before .args .chain)) 17)
+short-of-requires c κs = subst (AtMost 9) (sym (c .before .before .before .before .before .before .before .before .before .before .walk-few .ensures .says)) (at-most-in (now (c .before .before .before .before .before .before .before .before .before .before .before .before .before .before .before .before .before .before .args .table)) (c .before .before .before .before .before .before .before .before .before .before .before .before .before .before .before .before .before .before .args .op) (c .before .before .before .before .before .before .before .before .before .before .before .before .before .before .before .before .before .before .args .ptr) (now (c .before .before .before .before .before .before .before .before .before .before .before .before .before .before .before .before .before .before .args .chain)) 9)
 
 -- src/lib.rt:162:1
 returns : tie.Need-returns
-returns c = of-chain 17 (now (c .before .before .before .before .before .before .before .before .before .before .before .before .before .before .before .before .before .before .before .args .table)) (c .before .before .before .before .before .before .before .before .before .before .before .before .before .before .before .before .before .before .before .args .op) (c .before .before .before .before .before .before .before .before .before .before .before .before .before .before .before .before .before .before .before .args .ptr) (now (c .before .before .before .before .before .before .before .before .before .before .before .before .before .before .before .before .before .before .before .args .chain)) (c .before .before .before .before .before .before .before .before .before .before .before .before .before .before .before .before .before .before .before .args .room) (λ _. refl) (λ g. absurd (omega (arith, g, (c .before .before .before .before .before .before .before .before .before .before .before .before .before .before .before .before .before .before .before .pre)))) (c .before .before .before .before .before .before .before .before .before .before .before .walk-few .ensures) (omega arith) (c .short-of .ensures)
+returns c = of-chain 9 (now (c .before .before .before .before .before .before .before .before .before .before .before .before .before .before .before .before .before .before .before .args .table)) (c .before .before .before .before .before .before .before .before .before .before .before .before .before .before .before .before .before .before .before .args .op) (c .before .before .before .before .before .before .before .before .before .before .before .before .before .before .before .before .before .before .before .args .ptr) (now (c .before .before .before .before .before .before .before .before .before .before .before .before .before .before .before .before .before .before .before .args .chain)) (c .before .before .before .before .before .before .before .before .before .before .before .before .before .before .before .before .before .before .before .args .room) (λ _. refl) (λ g. absurd (omega (arith, g, (c .before .before .before .before .before .before .before .before .before .before .before .before .before .before .before .before .before .before .before .pre)))) (c .before .before .before .before .before .before .before .before .before .before .before .walk-few .ensures) (omega arith) (c .short-of .ensures)
 
 pub short-chain-spec : {M : Type 1} → statement M
 short-chain-spec =

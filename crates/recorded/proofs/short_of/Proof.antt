@@ -15,7 +15,7 @@ use Rattle.recorded.proofs.short_of.Statement.{statement}
 use Rattle.recorded.proofs.short_of.Tie as tie
 
 abbrev Inv-loop : tie.InvT-loop
-Inv-loop room kinds bytes bounds marks indices n p₀ j₀ p j = (j ≤ n) × (n ≤ 17) × (length (p .steps) ≡ 17) × (p .n ≡ p₀ .n) × (p .answer ≡ p₀ .answer) × (take j (p .steps) ≡ map recordOf (stepsIn kinds bytes bounds marks indices j))
+Inv-loop room kinds bytes bounds marks indices n p₀ j₀ p j = (j ≤ n) × (n ≤ 9) × (length (p .steps) ≡ 9) × (p .n ≡ p₀ .n) × (p .answer ≡ p₀ .answer) × (take j (p .steps) ≡ map recordOf (stepsIn kinds bytes bounds marks indices j))
 
 abbrev μ-loop : tie.MeasureT-loop
 μ-loop room kinds bytes bounds marks indices n p₀ j₀ p j = n - j
@@ -26,7 +26,7 @@ fit-in-requires c κs = wider (c .before .before .before .before .before .args .
 
 -- src/lib.rt:155:5
 loop-holds : tie.Need-loop-holds Inv-loop μ-loop
-loop-holds c = (search needs, fit-within 17 (c .before .before .before .before .before .before .before .args .room) (c .before .before .before .before .before .before .before .args .w) (c .before .fit-in .ensures) (c .before .before .before .before .before .before .before .pre), refl, refl, refl, no-record (now (c .before .before .before .before .before .before .before .args .kinds)) (now (c .before .before .before .before .before .before .before .args .bytes)) (now (c .before .before .before .before .before .before .before .args .bounds)) (now (c .before .before .before .before .before .before .before .args .marks)) (now (c .before .before .before .before .before .before .before .args .indices)) [])
+loop-holds c = (search needs, fit-within 9 (c .before .before .before .before .before .before .before .args .room) (c .before .before .before .before .before .before .before .args .w) (c .before .fit-in .ensures) (c .before .before .before .before .before .before .before .pre), refl, refl, refl, no-record (now (c .before .before .before .before .before .before .before .args .kinds)) (now (c .before .before .before .before .before .before .before .args .bytes)) (now (c .before .before .before .before .before .before .before .args .bounds)) (now (c .before .before .before .before .before .before .before .args .marks)) (now (c .before .before .before .before .before .before .before .args .indices)) [])
 
 -- src/lib.rt:156:27
 step-at-requires : tie.Need-step-at-requires Inv-loop μ-loop
@@ -58,7 +58,7 @@ loop-again c = let i = (c .before .before .before .loop .inv) in (search needs, 
 
 -- src/lib.rt:126:1
 returns : tie.Need-returns Inv-loop μ-loop
-returns c = let i = (c .before .loop .inv) in told (now (c .before .before .before .before .before .before .before .before .before .args .kinds)) (now (c .before .before .before .before .before .before .before .before .before .args .bytes)) (now (c .before .before .before .before .before .before .before .before .before .args .bounds)) (now (c .before .before .before .before .before .before .before .before .before .args .marks)) (now (c .before .before .before .before .before .before .before .before .before .args .indices)) 17 (c .before .before .before .before .before .before .before .before .before .args .room) (c .before .loop .p .steps) (c .before .before .before .before .before .before .before .before .before .args .w) (c .before .before .before .fit-in .result) (c .before .before .before .fit-in .ensures) (c .before .before .before .before .before .before .before .before .before .pre) (i .3) (i .4 ∙ toZ-ofZ w64 (c .before .before .before .fit-in .result .answer) (search needs)) (omega (arith, i .0, (c .loop-test .left))) (i .5)
+returns c = let i = (c .before .loop .inv) in told (now (c .before .before .before .before .before .before .before .before .before .args .kinds)) (now (c .before .before .before .before .before .before .before .before .before .args .bytes)) (now (c .before .before .before .before .before .before .before .before .before .args .bounds)) (now (c .before .before .before .before .before .before .before .before .before .args .marks)) (now (c .before .before .before .before .before .before .before .before .before .args .indices)) 9 (c .before .before .before .before .before .before .before .before .before .args .room) (c .before .loop .p .steps) (c .before .before .before .before .before .before .before .before .before .args .w) (c .before .before .before .fit-in .result) (c .before .before .before .fit-in .ensures) (c .before .before .before .before .before .before .before .before .before .pre) (i .3) (i .4 ∙ toZ-ofZ w64 (c .before .before .before .fit-in .result .answer) (search needs)) (omega (arith, i .0, (c .loop-test .left))) (i .5)
 
 pub short-of-spec : {M : Type 1} → statement M
 short-of-spec =

@@ -87,7 +87,7 @@ module _ {M : Type 1} (𝓤 : URA M) (H : Heap 𝓤) (A : Atoms 𝓤) (W : Given
   abbrev Made : Contract 𝓤
   Made = tripleOf 𝓤 H A long-chain.signature (long-chain.spec 𝓤 H A at-mem run)
 
-  module _ (κ κ′ : Lft) (q q′ : Share) (b o : ℕ) (γ : GName) (ys : List QPtrChainStep) (op ptr : ℕ) (xs : Inputs) (room : Room Row (length ys)) (op-fits : op < 2 ^ 32) (ptr-fits : ptr < 2 ^ 32) (few : 128 < length (xs .1 .0 .now)) where
+  module _ (κ κ′ : Lft) (q q′ : Share) (b o : ℕ) (γ : GName) (ys : List QPtrChainStep) (op ptr : ℕ) (xs : Inputs) (room : Room Row (length ys)) (op-fits : op < 2 ^ 32) (ptr-fits : ptr < 2 ^ 32) (few : 64 < length (xs .1 .0 .now)) where
     abbrev s : Val
     s = sliceVal (b, o) (length ys)
 

@@ -87,7 +87,7 @@ module _ {M : Type 1} (𝓤 : URA M) (H : Heap 𝓤) (A : Atoms 𝓤) (W : Given
   abbrev Made : Contract 𝓤
   Made = tripleOf 𝓤 H A short-chain.signature (short-chain.spec 𝓤 H A at-mem run)
 
-  module _ (κ κ′ : Lft) (q q′ : Share) (b o : ℕ) (γ : GName) (ys : List QPtrChainStep) (op ptr : ℕ) (xs : Inputs) (room : Room Row (length ys)) (op-fits : op < 2 ^ 32) (ptr-fits : ptr < 2 ^ 32) (few : length (xs .1 .0 .now) ≤ 128) where
+  module _ (κ κ′ : Lft) (q q′ : Share) (b o : ℕ) (γ : GName) (ys : List QPtrChainStep) (op ptr : ℕ) (xs : Inputs) (room : Room Row (length ys)) (op-fits : op < 2 ^ 32) (ptr-fits : ptr < 2 ^ 32) (few : length (xs .1 .0 .now) ≤ 64) where
     abbrev s : Val
     s = sliceVal (b, o) (length ys)
 
@@ -109,7 +109,7 @@ module _ {M : Type 1} (𝓤 : URA M) (H : Heap 𝓤) (A : Atoms 𝓤) (W : Given
 
     -- what `short_chain` says of its result
     abbrev Made-of : Short → Type 0
-    Made-of r = Holds 17 (chainIn (length ys) (xs .0 .now) op ptr (xs .1 .0 .now)) (r .steps) (r .n) (r .answer)
+    Made-of r = Holds 9 (chainIn (length ys) (xs .0 .now) op ptr (xs .1 .0 .now)) (r .steps) (r .n) (r .answer)
 
     -- what the callee's triple binds outside, that the caller has what it asks, and of its `ensured` the clause alone
     abbrev to-made : Made .Ghost
@@ -128,7 +128,7 @@ module _ {M : Type 1} (𝓤 : URA M) (H : Heap 𝓤) (A : Atoms 𝓤) (W : Given
       n-in : r .n ≤ length ys
       n-in = subst (λ (m : ℕ). m ≤ length ys) (sym (h .counted)) (steps-fit (xs .0 .now) op ptr (xs .1 .0 .now) (length ys))
 
-      as-many : length (r .steps) ≡ 17
+      as-many : length (r .steps) ≡ 9
       as-many = sym (length-map (r .steps) _) ∙ w-is .1 .1 .0 .1 .0 .1
 
       n-all : r .n ≤ length (r .steps)
@@ -140,9 +140,9 @@ module _ {M : Type 1} (𝓤 : URA M) (H : Heap 𝓤) (A : Atoms 𝓤) (W : Given
       z-is : Is (SInt w64) (r .answer) (vint w64 (ofZ w64 (r .answer)) ∷ [])
       z-is = subst (Is (SInt w64) (r .answer)) (sint-tells w64 (r .answer) (w-is .0 .1 .1 .0) (w-is .1 .1 .1 .1 .0)) (w-is .1 .1 .1 .1 .0)
 
-      exits : (i : ℕ) → i ≡ r .n → ent 𝓤 (⋆ 𝓤 H A (Left 𝓤 H A W κ κ′ q q′ b o γ ys room Lists (P.struct .name) 17 (r .steps) (r .n) (r .answer) blank i)) (Post (vint w64 (ofZ w64 (r .answer))))
+      exits : (i : ℕ) → i ≡ r .n → ent 𝓤 (⋆ 𝓤 H A (Left 𝓤 H A W κ κ′ q q′ b o γ ys room Lists (P.struct .name) 9 (r .steps) (r .n) (r .answer) blank i)) (Post (vint w64 (ofZ w64 (r .answer))))
       exits i e =
-          qed W (Left 𝓤 H A W κ κ′ q q′ b o γ ys room Lists (P.struct .name) 17 (r .steps) (r .n) (r .answer) blank i) ∵
+          qed W (Left 𝓤 H A W κ κ′ q q′ b o γ ys room Lists (P.struct .name) 9 (r .steps) (r .n) (r .answer) blank i) ∵
           suffices ! _ (ends-at 𝓤 H A f.ended stayed (f.clauses 𝓤 H A at-mem run) W (((κ, (κ′, tt)), (q, (q′, tt)), tt, x ys, at), tt) (vint w64 (ofZ w64 (r .answer))) (r .answer) (so-far (r .steps) i ys, (tt, (tt, (tt, (tt, tt))))) (as-long, (tt, (tt, (tt, (tt, tt)))))) $
           says ! (recorded-by h e) $
           nothing ! $ move ! (4 ∷ 0 ∷ []) $ join ! $ move ! (3 ∷ 0 ∷ []) $ join ! $ frame ! $
@@ -174,7 +174,7 @@ module _ {M : Type 1} (𝓤 : URA M) (H : Heap 𝓤) (A : Atoms 𝓤) (W : Given
         assigns ! (of-opd ! (load ! (from ! (stop !)) (look ! 20 refl))) (from ! (stop !)) (init ! 26 refl (LL.lawful P.the-type P′.the-laws 𝓤 H A W .typed r _ (subst (Is P.the-row r) (P′.lowers .val-is r (w ∷ []) w-is) w-is) .0)) $
         assigns ! (of-opd ! (load ! (from ! (fld ! refl (stop !))) (look-in ! 26 (sub ! 1 refl (whole !))))) (from ! (stop !)) (init ! 24 refl (tt, record { fits = lt-of-le-of-lt (n-in r h w w-is) (room .0) })) $
         assigns ! (of-opd ! (lit ! tt)) (from ! (stop !)) (init ! 22 refl (tt, record { fits = lit< tt })) $
-        copies 𝓤 H A W κ κ′ q q′ b o γ ys room Lists (P.struct .name) 17 (r .steps) (r .n) (r .answer) blank (n-in r h w w-is) (n-all r h w w-is) (as-many r h w w-is) (typed r h w w-is) (z-is r h w w-is) Post (exits r h w w-is)
+        copies 𝓤 H A W κ κ′ q q′ b o γ ys room Lists (P.struct .name) 9 (r .steps) (r .n) (r .answer) blank (n-in r h w w-is) (n-all r h w w-is) (as-many r h w w-is) (typed r h w w-is) (z-is r h w w-is) Post (exits r h w w-is)
         𝓣 _ _ _ _ l₀ l₁ l₂ l₃ l₄ l₅ l₆ l₇ l₈ l₉ l₁₀ l₁₁ l₁₂ l₁₃ l₁₄ l₁₅ l₁₆ l₁₇))))))))))))))))))))))
 
   write-short-walks : (𝓣 : Tables 𝓤 H) → Triple 𝓤 (𝓣 .C #recorded·short-chain) Made → Walks 𝓤 H A f.ended stayed (WpFn 𝓤 H (𝓣 .C) (𝓣 .Λ) code.function) (f.clauses 𝓤 H A at-mem run)

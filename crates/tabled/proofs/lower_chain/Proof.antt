@@ -21,7 +21,7 @@ same-length c = search needs
 
 -- src/lib.rt:231:9
 returns : tie.Need-returns
-returns c = by-result (in-lists _ _ _ (now (c .before .before .before .before .before .before .before .before .args .chain)) _ 17 (λ _. refl) (λ g. absurd (let h = (c .before .before .before .before .if1 .taken) in omega (arith, g, h)))) (c .before .before .lower-few .ensures)
+returns c = by-result (in-lists _ _ _ (now (c .before .before .before .before .before .before .before .before .args .chain)) _ 9 (λ _. refl) (λ g. absurd (let h = (c .before .before .before .before .if1 .taken) in omega (arith, g, h)))) (c .before .before .lower-few .ensures)
 
 -- src/lib.rt:233:5
 lower-many-requires : tie.Need-lower-many-requires
