@@ -3,6 +3,7 @@ use Prim.Native.Nat.{ℕ}
 use mathlib.Core.Path.{_≡_}
 use mathlib.Core.List.{List}
 use lib.ListN.{getD}
+use Rattle.shapes.specs.Words.{memoryWords}
 use Rattle.shapes.specs.declared.Components.{Components}
 use Rattle.shapes.specs.declared.MemTypeLayout.{MemTypeLayout}
 use Rattle.shapes.specs.declared.Handle.the-variants as handle
@@ -45,11 +46,22 @@ layoutAt Opaques = layout.HandleArray handle.Opaque 0
 
 -- ---- rows
 
--- words that are memory's, made of parts of this kind
+-- words of no number, as those of memory and of one buffer are, made of parts of this kind
 abbrev pub Parted : (ws : List ℕ) (kind : ℕ) → Type 0
-Parted ws kind = (getD ws 0 0 ≡ 3) × (getD ws 1 0 ≡ 0) × (getD ws 2 0 ≡ kind)
+Parted ws kind = (getD ws 1 0 ≡ 0) × (getD ws 2 0 ≡ kind)
 
--- parts that are named are the parts of what is found
-abbrev pub Named : Found → Parts → Type 0
-Named f (Are c) = f ≡ At (Memory c)
-Named f Other = Unit {0}
+-- the memory whose numbers stand in a row, made of these parts
+abbrev pub memoryWith : List ℕ → Components → MemTypeLayout
+memoryWith ws parts = record {
+  mem = record { «fixed_base» = record { align = getD ws 4 0; «legacy_align» = getD ws 5 0; size = getD ws 3 0 }; «dyn_unit_stride» = getD ws 6 0 };
+  components = parts;
+}
+
+-- a row's words are those of memory of these parts, behind the tag that it has
+abbrev pub Made : List ℕ → Components → Type 0
+Made ws c = ws ≡ memoryWords (getD ws 0 0) 0 (memoryWith ws c)
+
+-- parts that are named are those that the row is made of
+abbrev pub Named : List ℕ → Parts → Type 0
+Named ws (Are c) = Made ws c
+Named ws Other = Unit {0}

@@ -4,10 +4,10 @@ use shapes::Components;
 use shapes::Handle;
 use shapes::TypeLayout;
 ghost use mathlib.Core.Path.{_≡_};
-ghost use lib.ListN.{length};
+ghost use lib.ListN.{length, getD};
 ghost use Rattle.shapes.specs.Words.{decode};
 ghost use Rattle.shapes.specs.Rows.{answerAt};
-ghost use Rattle.places.specs.Places.{placeOf, foundOf, Parted, Named};
+ghost use Rattle.places.specs.Places.{placeOf, foundOf, Parted, Made, Named};
 
 // Memory by its parts, a buffer or an array of buffers by those of its contents, an opaque handle, an array of these.
 pub enum Place {
@@ -66,16 +66,16 @@ fn by_layout(ws: &[u32]) -> Found
     found_of(shapes::words::answer(ws))
 }
 
-// The parts of memory that a row names by three words, or that its layout must tell.
+// The parts that a row names by three words, or that its layout must tell.
 pub enum Parts {
     Are(Components),
     Other,
 }
 
-// Memory of the kinds 1, 2 and 3 is no less than its parts.
+// A row of memory or a buffer is of kind 1, 2 or 3, by what it is made of.
 fn of_kind(ws: &[u32], kind: u32) -> Parts
     requires { ⌜ (length (now ws) ≡ 10) × Parted (now ws) kind ⌝ }
-    ensures { λ r. ⌜ Named (foundOf (decode (now (ws .entry)))) r ⌝ }
+    ensures { λ r. ⌜ Named (now (ws .entry)) r ⌝ }
 {
     if kind == 2 {
         return Parts::Are(Components::Elements {
@@ -105,19 +105,30 @@ fn of_kind(ws: &[u32], kind: u32) -> Parts
     Parts::Are(Components::Scalar)
 }
 
-// The same, memory by its parts alone.
+// The place that a row's words hold, which are made of these parts: 3 is memory, 1 a buffer.
+fn of_tag(ws: &[u32], tag: u32, c: Components) -> Found
+    requires { ⌜ Made (now ws) c × (getD (now ws) 0 0 ≡ tag) ⌝ }
+    ensures { λ r. ⌜ r ≡ foundOf (decode (now (ws .entry))) ⌝ }
+{
+    if tag == 3 {
+        return Found::At(Place::Memory(c));
+    }
+    if tag == 1 {
+        return Found::At(Place::Buffer(c));
+    }
+    by_layout(ws)
+}
+
+// The place that a row's words hold, memory and buffers by their parts alone.
 fn by_parts(ws: &[u32]) -> Found
     requires { ⌜ length (now ws) ≡ 10 ⌝ }
     ensures { λ r. ⌜ r ≡ foundOf (decode (now (ws .entry))) ⌝ }
 {
-    if ws[0] != 3 {
-        return by_layout(ws);
-    }
     if ws[1] != 0 {
         return by_layout(ws);
     }
     match of_kind(ws, ws[2]) {
-        Parts::Are(c) => Found::At(Place::Memory(c)),
+        Parts::Are(c) => of_tag(ws, ws[0], c),
         Parts::Other => by_layout(ws),
     }
 }

@@ -1,5 +1,5 @@
--- `places::by_parts` meets its contract: memory whose parts are named is found by them. Assumes nothing.
-use mathlib.Core.Path.{sym}
+-- `places::by_parts` meets its contract: by the parts that the row names, and its tag. Assumes nothing.
+use mathlib.Core.Path.{refl}
 use borrow.Author.Needs.{needs}
 use Rattle.places.proofs.by_parts.Statement.{statement}
 use Rattle.places.proofs.by_parts.Tie as tie
@@ -13,15 +13,6 @@ by-layout-requires c κs = search needs
 returns : tie.Need-returns
 returns c = search needs
 
-shared-slice-read-if2 : tie.Need-shared-slice-read-if2
-shared-slice-read-if2 c = search needs
-
-by-layout-requires-2 : tie.Need-by-layout-requires-2
-by-layout-requires-2 c κs = search needs
-
-returns-2 : tie.Need-returns-2
-returns-2 c = search needs
-
 shared-slice-read-of-kind : tie.Need-shared-slice-read-of-kind
 shared-slice-read-of-kind c = search needs
 
@@ -31,17 +22,23 @@ of-kind-requires c κs = search needs
 enum-known-c : tie.Need-enum-known-c
 enum-known-c c = search needs
 
+shared-slice-read-of-tag : tie.Need-shared-slice-read-of-tag
+shared-slice-read-of-tag c = search needs
+
+of-tag-requires : tie.Need-of-tag-requires
+of-tag-requires c κs = (rw (c .before .before .c .given .1) at (c .before .before .before .before .of-kind .ensures), refl)
+
 enum-told : tie.Need-enum-told
 enum-told c = search needs
 
-by-layout-requires-3 : tie.Need-by-layout-requires-3
-by-layout-requires-3 c κs = search needs
+by-layout-requires-2 : tie.Need-by-layout-requires-2
+by-layout-requires-2 c κs = search needs
+
+returns-2 : tie.Need-returns-2
+returns-2 c = search needs
 
 returns-3 : tie.Need-returns-3
-returns-3 c = sym (rw (c .before .c .given .1) at (c .before .before .before .of-kind .ensures))
-
-returns-4 : tie.Need-returns-4
-returns-4 c = search needs
+returns-3 c = search needs
 
 pub by-parts-spec : {M : Type 1} → statement M
 by-parts-spec =
@@ -50,13 +47,12 @@ by-parts-spec =
     shared-slice-read-if1
     by-layout-requires
     returns
-    shared-slice-read-if2
-    by-layout-requires-2
-    returns-2
     shared-slice-read-of-kind
     of-kind-requires
     enum-known-c
+    shared-slice-read-of-tag
+    of-tag-requires
     enum-told
-    by-layout-requires-3
-    returns-3
-    returns-4)
+    by-layout-requires-2
+    returns-2
+    returns-3)

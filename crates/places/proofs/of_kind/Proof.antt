@@ -16,7 +16,7 @@ shared-slice-read-t9 : tie.Need-shared-slice-read-t9
 shared-slice-read-t9 c = search needs
 
 returns : tie.Need-returns
-returns c = of-elements (now (c .before .before .before .before .args .ws)) (c .before .before .before .before .pre .0) (c .before .before .before .before .pre .1 .0) (c .before .before .before .before .pre .1 .1) (omega (arith, c .before .before .before .before .pre .1 .2, c .before .before .before .if1 .taken))
+returns c = of-elements (now (c .before .before .before .before .args .ws)) (c .before .before .before .before .pre .0) (c .before .before .before .before .pre .1 .0) (omega (arith, c .before .before .before .before .pre .1 .1, c .before .before .before .if1 .taken))
 
 shared-slice-read-if2 : tie.Need-shared-slice-read-if2
 shared-slice-read-if2 c = search needs
@@ -31,7 +31,7 @@ shared-slice-read-t16 : tie.Need-shared-slice-read-t16
 shared-slice-read-t16 c = search needs
 
 returns-3 : tie.Need-returns-3
-returns-3 c = of-fields (now (c .before .before .before .before .before .before .args .ws)) (c .before .before .before .before .before .before .pre .0) (c .before .before .before .before .before .before .pre .1 .0) (c .before .before .before .before .before .before .pre .1 .1) (omega (arith, c .before .before .before .before .before .before .pre .1 .2, c .before .before .if3 .taken)) (omega (arith, c .before .before .before .if2 .left))
+returns-3 c = of-fields (now (c .before .before .before .before .before .before .args .ws)) (c .before .before .before .before .before .before .pre .0) (c .before .before .before .before .before .before .pre .1 .0) (omega (arith, c .before .before .before .before .before .before .pre .1 .1, c .before .before .if3 .taken)) (omega (arith, c .before .before .before .if2 .left))
 
 returns-4 : tie.Need-returns-4
 returns-4 c = search needs
@@ -49,7 +49,7 @@ returns-6 : tie.Need-returns-6
 returns-6 c = search needs
 
 returns-7 : tie.Need-returns-7
-returns-7 c = of-scalar (now (c .before .before .before .before .before .before .before .before .before .args .ws)) (c .before .before .before .before .before .before .before .before .before .pre .0) (c .before .before .before .before .before .before .before .before .before .pre .1 .0) (c .before .before .before .before .before .before .before .before .before .pre .1 .1) (omega (arith, c .before .before .before .before .before .before .before .before .before .pre .1 .2, c .before .before .before .before .if4 .left)) (omega (arith, c .before .before .if5 .left)) (omega (arith, c .if6 .left)) (omega (arith, c .before .before .before .before .before .before .if2 .left))
+returns-7 c = of-scalar (now (c .before .before .before .before .before .before .before .before .before .args .ws)) (c .before .before .before .before .before .before .before .before .before .pre .0) (c .before .before .before .before .before .before .before .before .before .pre .1 .0) (omega (arith, c .before .before .before .before .before .before .before .before .before .pre .1 .1, c .before .before .before .before .if4 .left)) (omega (arith, c .before .before .if5 .left)) (omega (arith, c .if6 .left)) (omega (arith, c .before .before .before .before .before .before .if2 .left))
 
 pub of-kind-spec : {M : Type 1} → statement M
 of-kind-spec =
