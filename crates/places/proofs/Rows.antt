@@ -1,7 +1,6 @@
 -- Rows of memory and buffers, known by the words of their parts. Assumes nothing.
 use Prim.Native.Nat.{ℕ}
-use native.Mathlib.Omega.{arith}
-use mathlib.Core.Path.{_≡_, refl, sym, ap, _∙_}
+use mathlib.Core.Path.{_≡_, ap, _∙_}
 use mathlib.Core.List.{List, [], _∷_}
 use lib.ListN.{length, getD}
 use Rattle.shapes.specs.Words.{memoryWords, handleWords, encode, decode}
@@ -12,24 +11,10 @@ use Rattle.shapes.specs.declared.TypeLayout.{TypeLayout}
 use Rattle.shapes.specs.declared.TypeLayout.the-variants as layout
 use Rattle.shapes.specs.declared.Answer.the-variants.{Laid}
 use Rattle.shapes.proofs.ReadsBack.{decode-encode}
+use Rattle.places.proofs.Listed.{one-by-one}
 use Rattle.places.specs.declared.Place.the-variants.{Memory, Buffer}
 use Rattle.places.specs.declared.Found.the-variants.{At}
 use Rattle.places.specs.Places.{placeOf, foundOf, memoryWith, Made}
-
-ten : (ws : List ℕ) → length ws ≡ 10
-    → ws ≡ getD ws 0 0 ∷ getD ws 1 0 ∷ getD ws 2 0 ∷ getD ws 3 0 ∷ getD ws 4 0 ∷ getD ws 5 0 ∷ getD ws 6 0 ∷ getD ws 7 0 ∷ getD ws 8 0 ∷ getD ws 9 0 ∷ []
-ten [] h = absurd (omega arith)
-ten (a ∷ []) h = absurd (omega arith)
-ten (a ∷ b ∷ []) h = absurd (omega arith)
-ten (a ∷ b ∷ c ∷ []) h = absurd (omega arith)
-ten (a ∷ b ∷ c ∷ d ∷ []) h = absurd (omega arith)
-ten (a ∷ b ∷ c ∷ d ∷ e ∷ []) h = absurd (omega arith)
-ten (a ∷ b ∷ c ∷ d ∷ e ∷ f ∷ []) h = absurd (omega arith)
-ten (a ∷ b ∷ c ∷ d ∷ e ∷ f ∷ g ∷ []) h = absurd (omega arith)
-ten (a ∷ b ∷ c ∷ d ∷ e ∷ f ∷ g ∷ i ∷ []) h = absurd (omega arith)
-ten (a ∷ b ∷ c ∷ d ∷ e ∷ f ∷ g ∷ i ∷ j ∷ []) h = absurd (omega arith)
-ten (a ∷ b ∷ c ∷ d ∷ e ∷ f ∷ g ∷ i ∷ j ∷ k ∷ []) h = refl
-ten (a ∷ b ∷ c ∷ d ∷ e ∷ f ∷ g ∷ i ∷ j ∷ k ∷ l ∷ ws) h = absurd (omega arith)
 
 module _ (ws : List ℕ) (h : length ws ≡ 10) (none : getD ws 1 0 ≡ 0) where
   abbrev numbers : (last : List ℕ) → List ℕ
@@ -37,7 +22,7 @@ module _ (ws : List ℕ) (h : length ws ≡ 10) (none : getD ws 1 0 ≡ 0) where
 
   -- a row of a kind
   of-kind : {kind : ℕ} → getD ws 2 0 ≡ kind → ws ≡ getD ws 0 0 ∷ 0 ∷ kind ∷ numbers (getD ws 7 0 ∷ getD ws 8 0 ∷ getD ws 9 0 ∷ [])
-  of-kind k = ten ws h
+  of-kind k = one-by-one 10 ws h
       ∙ ap (λ (x : ℕ). getD ws 0 0 ∷ x ∷ getD ws 2 0 ∷ numbers (getD ws 7 0 ∷ getD ws 8 0 ∷ getD ws 9 0 ∷ [])) none
       ∙ ap (λ (x : ℕ). getD ws 0 0 ∷ 0 ∷ x ∷ numbers (getD ws 7 0 ∷ getD ws 8 0 ∷ getD ws 9 0 ∷ [])) k
 

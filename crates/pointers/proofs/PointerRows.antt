@@ -1,6 +1,5 @@
 -- A pointer's row, known by its words. Assumes nothing.
 use Prim.Native.Nat.{ℕ}
-use native.Mathlib.Omega.{arith}
 use mathlib.Core.Path.{_≡_, refl, ap, _∙_}
 use mathlib.Core.List.{List, [], _∷_}
 use lib.ListN.{length, getD}
@@ -9,22 +8,13 @@ use Rattle.spirv.specs.declared.SpvType.the-variants.{Pointer}
 use Rattle.spirv.specs.Decl.{pointeeOf}
 use Rattle.spirv.specs.Rows.{encodeRow, decodeRow, plainRow}
 use Rattle.spirv.proofs.Rows.{rows-read-back}
+use Rattle.places.proofs.Listed.{one-by-one}
 use Rattle.pointers.specs.OverTables.{pointeeOfRow}
-
-six : (ws : List ℕ) → length ws ≡ 6 → ws ≡ getD ws 0 0 ∷ getD ws 1 0 ∷ getD ws 2 0 ∷ getD ws 3 0 ∷ getD ws 4 0 ∷ getD ws 5 0 ∷ []
-six [] h = absurd (omega arith)
-six (a ∷ []) h = absurd (omega arith)
-six (a ∷ b ∷ []) h = absurd (omega arith)
-six (a ∷ b ∷ c ∷ []) h = absurd (omega arith)
-six (a ∷ b ∷ c ∷ d ∷ []) h = absurd (omega arith)
-six (a ∷ b ∷ c ∷ d ∷ e ∷ []) h = absurd (omega arith)
-six (a ∷ b ∷ c ∷ d ∷ e ∷ f ∷ []) h = refl
-six (a ∷ b ∷ c ∷ d ∷ e ∷ f ∷ g ∷ ws) h = absurd (omega arith)
 
 module _ (ws : List ℕ) (h : length ws ≡ 6) (tag : getD ws 0 0 ≡ 80) (x : getD ws 3 0 ≡ 0) (y : getD ws 4 0 ≡ 0) (z : getD ws 5 0 ≡ 0) where
   pointer-words : ws ≡ encodeRow (plainRow (Pointer (getD ws 1 0) (getD ws 2 0)))
   unfolding encodeRow
-  pointer-words = six ws h
+  pointer-words = one-by-one 6 ws h
       ∙ ap (λ (w : ℕ). w ∷ getD ws 1 0 ∷ getD ws 2 0 ∷ getD ws 3 0 ∷ getD ws 4 0 ∷ getD ws 5 0 ∷ []) tag
       ∙ ap (λ (w : ℕ). 80 ∷ getD ws 1 0 ∷ getD ws 2 0 ∷ w ∷ getD ws 4 0 ∷ getD ws 5 0 ∷ []) x
       ∙ ap (λ (w : ℕ). 80 ∷ getD ws 1 0 ∷ getD ws 2 0 ∷ 0 ∷ w ∷ getD ws 5 0 ∷ []) y
