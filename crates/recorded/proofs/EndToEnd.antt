@@ -3,7 +3,7 @@ use Prim.Native.Nat.{ℕ, zero, suc, _+_, _*_, _<_, _≤_}
 use native.Mathlib.Omega.{arith}
 use mathlib.Core.Path.{_≡_, refl, sym, ap, _∙_, subst}
 use mathlib.Core.List.{List, [], _∷_, map}
-use lib.IntN.{ℤ, pos, negℤ}
+use lib.IntN.{pos, negℤ}
 use lib.ListN.{length, take, drop, length-map}
 use lib.Seq.{take-at}
 use Rattle.arith.specs.Refusals.{Result, ok, refused}
@@ -12,14 +12,12 @@ use Rattle.spirv.specs.declared.Index.{Index}
 use Rattle.sheet.specs.Sheet.{max-indices}
 use Rattle.lower.specs.declared.QPtrOp.{QPtrOp}
 use Rattle.lower.specs.Chain.{chainInRoom}
-use Rattle.moves.specs.declared.Walk.{Walk}
-use Rattle.moves.specs.declared.Walk.the-variants.{Steps, Refused}
 use Rattle.moves.specs.Written.{walkOf, stepsOf}
 use Rattle.sheet.specs.Tables.{over}
 use Rattle.wire.specs.Wire.{indicesOf, stepsBytes}
 use Rattle.flat.proofs.Parts.{Read, was-read}
 use Rattle.tabled.specs.declared.OpReading.the-variants.{Op}
-use Rattle.tabled.specs.Chains.{opOf, chainIn, roomIn, Lowered}
+use Rattle.tabled.specs.Chains.{opOf, chainIn}
 use Rattle.tabled.proofs.Laws.{steps-size}
 use Rattle.tabled.proofs.EndToEnd.{in-sheet, kept-steps, chain-above}
 use Rattle.recorded.specs.declared.QPtrChainStep.{QPtrChainStep}

@@ -1,5 +1,6 @@
 -- Laws of steps as records. Assumes nothing.
 use Prim.Native.Nat.{ℕ, zero, suc, _+_, _-_, _≤_, _<_, zero-le}
+use native.Mathlib.Nat.{not-suc-le-zero, le-of-suc-le-suc}
 use native.Mathlib.Omega.{arith}
 use native.Mathlib.Numerals.{add-one}
 use mathlib.Core.Path.{_≡_, refl, sym, ap, _∙_, subst}
@@ -7,7 +8,7 @@ use mathlib.Core.Bool.{Bool, true, false, cond}
 use mathlib.Core.List.{List, [], _∷_, _++_, map}
 use lib.Dec.{leb, ltb}
 use lib.IntN.{ℤ, pos, negsuc, negℤ, _-ℤ_}
-use lib.ListN.{length, set, take, drop}
+use lib.ListN.{length, set}
 use mir.Syntax.{w64}
 use mir.Val.{SFits}
 use borrow.Author.Tests.{le-leb, lt-leb, lt-ltb, ltb-false}
@@ -26,9 +27,8 @@ use Rattle.tabled.specs.Chains.{walkIn, chainIn, heldBy}
 use Rattle.tabled.proofs.Laws.{steps-count, in-lists, held-in}
 use Rattle.recorded.specs.declared.Fit.{Fit}
 use Rattle.recorded.specs.declared.QPtrChainStep.{QPtrChainStep}
-use Rattle.recorded.specs.Records.{recordOf, stepOf, ReadsBack, countOf, Recorded}
+use Rattle.recorded.specs.Records.{recordOf, stepOf, ReadsBack, recordsOver, Recorded}
 use Rattle.recorded.specs.Held.{AtMost, fitOf, Holds}
-use Rattle.recorded.proofs.SoFar.{so-far, one-more}
 
 -- ---- a step is read back from its record
 
@@ -71,7 +71,7 @@ steps-within room r = by (inRoom room length r) refl
 
 module _ (table : List ℕ) (op ptr : ℕ) (s : List ℕ) where
   -- a walk's steps are as many as its lists hold
-  pub at-most-in : (room : ℕ) → AtMost room (walkOf 0 (walkIn room table op ptr s))
+  at-most-in : (room : ℕ) → AtMost room (walkOf 0 (walkIn room table op ptr s))
   unfolding walkIn chainOver
   at-most-in room = by (walkIn room table op ptr s) refl
     where
@@ -93,78 +93,88 @@ module _ (table : List ℕ) (op ptr : ℕ) (s : List ℕ) where
       many : 64 < length s → places ≡ 256
       many h = ap (λ (b : Bool). cond {A = ℕ} b 9 256) (lt-leb (length s) 64 h)
 
--- ---- the records of a walk
+-- ---- the steps that five lists hold
+
+module _ (ks bs ls ms is : List ℕ) where
+  module _ (room : ℕ) where
+    abbrev Fitted : Walk → Fit → Type 0
+    Fitted w f = Holds (inRoom room length (heldBy w ks bs ls ms is)) (f .n) (f .answer) ks bs ls ms is
+
+    -- how a test comes out decides both
+    by-test : (m : ℕ) (b : Bool) (f : Fit) → f ≡ cond b (record { n = 0; answer = negℤ (pos 24) }) record { n = m; answer = pos m }
+        → Holds ((refuse short-list when b) >> ok (stepsIn ks bs ls ms is m)) (f .n) (f .answer) ks bs ls ms is
+    unfolding _>>_ refuse_when_ stepsIn
+    by-test m true f e = rw e record { steps = refl; says = refl }
+    by-test m false f e = rw e record { steps = refl; says = ap pos (sym (steps-count ks bs ls ms is m)) }
+
+    by-walk : (w : Walk) → Fitted w (fitOf room w)
+    unfolding inRoom _>>=_ stepsIn
+    by-walk (Refused e) = record { steps = refl; says = refl }
+    by-walk (Steps m) = rw (steps-count ks bs ls ms is m) (by-test m (ltb room m) (fitOf room (Steps m)) refl)
+
+    fitted : (w : Walk) (f : Fit) → f ≡ fitOf room w → Fitted w f
+    fitted w f e = subst (λ (g : Fit). Fitted w g) (sym e) (by-walk w)
+
+wider : (w : Walk) → {a b : ℕ} → a ≤ b → AtMost a w → AtMost b w
+wider (Steps n) h g = omega (arith, h, g)
+wider (Refused e) h g = tt
+
+pub few-steps : {size room : ℕ} (table : List ℕ) (op ptr : ℕ) (s : List ℕ) {w : Walk} {ks bs ls ms is ks′ bs′ ls′ ms′ is′ : List ℕ} → room ≡ size → size ≤ 256 → Wrote 0 (walkIn room table op ptr s) w ks bs ls ms is ks′ bs′ ls′ ms′ is′ → AtMost 256 w
+few-steps {room = room} table op ptr s {w} e h x = wider w (omega (arith, e, h)) (subst (AtMost room) (sym (x .says)) (at-most-in table op ptr s room))
+
+-- of a walk in lists of the code's own
+pub of-chain : (size : ℕ) (table : List ℕ) (op ptr : ℕ) (s : List ℕ) (room : ℕ) (few : length s ≤ 64 → size ≡ 9) (many : 64 < length s → size ≡ 256)
+    {w : Walk} {f : Fit} {ks bs ls ms is ks′ bs′ ls′ ms′ is′ : List ℕ} → Wrote 0 (walkIn (roomOf ks bs ls ms is) table op ptr s) w ks bs ls ms is ks′ bs′ ls′ ms′ is′ → roomOf ks bs ls ms is ≡ size
+    → f ≡ fitOf room w → Holds (chainIn room table op ptr s) (f .n) (f .answer) ks′ bs′ ls′ ms′ is′
+of-chain size table op ptr s room few many {w} {f} {ks} {bs} {ls} {ms} {is} {ks′} {bs′} {ls′} {ms′} {is′} x wide e =
+    subst (λ (r : Result (List QPtrOp)). Holds r (f .n) (f .answer) ks′ bs′ ls′ ms′ is′)
+    (ap (inRoom room length) (held-in table op ptr s (roomOf ks bs ls ms is) x (omega arith)) ∙ sym (in-lists table op ptr s room (roomOf ks bs ls ms is) (λ h. wide ∙ few h) (λ h. wide ∙ many h)))
+    (fitted ks′ bs′ ls′ ms′ is′ room w f e)
+
+-- ---- the records of these steps
 
 map-append : (f : QPtrOp → QPtrChainStep) (a b : List QPtrOp) → map f (a ++ b) ≡ map f a ++ map f b
 map-append f [] b = refl
 map-append f (s ∷ a) b = ap (λ (l : List QPtrChainStep). f s ∷ l) (map-append f a b)
 
-module _ (ks bs ls ms is : List ℕ) where
-  pub no-record : (l : List QPtrChainStep) → take 0 l ≡ map recordOf (stepsIn ks bs ls ms is 0)
+over-length : (steps : List QPtrOp) (old : List QPtrChainStep) → length steps ≤ length old → length (recordsOver steps old) ≡ length old
+over-length [] old h = refl
+over-length (s ∷ steps) [] h = absurd (not-suc-le-zero h)
+over-length (s ∷ steps) (y ∷ old) h = ap suc (over-length steps old (le-of-suc-le-suc h))
+
+over-next : (steps : List QPtrOp) (s : QPtrOp) (old : List QPtrChainStep) → length steps < length old → set (recordsOver steps old) (length steps) (recordOf s) ≡ recordsOver (steps ++ (s ∷ [])) old
+over-next [] s [] h = absurd (not-suc-le-zero h)
+over-next [] s (y ∷ old) h = refl
+over-next (t ∷ steps) s [] h = absurd (not-suc-le-zero h)
+over-next (t ∷ steps) s (y ∷ old) h = ap (λ (l : List QPtrChainStep). recordOf t ∷ l) (over-next steps s old (le-of-suc-le-suc h))
+
+-- the list once the first i are written
+module _ (ks bs ls ms is : List ℕ) (old : List QPtrChainStep) where
+  abbrev pub so-far : ℕ → List QPtrChainStep
+  so-far i = recordsOver (stepsIn ks bs ls ms is i) old
+
+  pub so-far-none : so-far 0 ≡ old
   unfolding stepsIn
-  no-record l = refl
+  so-far-none = refl
 
-  pub record-more : (l : List QPtrChainStep) (j : ℕ) → j < length l → take j l ≡ map recordOf (stepsIn ks bs ls ms is j) → {s : QPtrChainStep} {q : QPtrOp} → q ≡ stepAt ks bs ls ms is j → s ≡ recordOf q
-      → take (j + 1) (set l j s) ≡ map recordOf (stepsIn ks bs ls ms is (j + 1))
+  pub so-far-length : (i : ℕ) → i ≤ length old → length (so-far i) ≡ length old
+  so-far-length i h = over-length (stepsIn ks bs ls ms is i) old (let c = steps-count ks bs ls ms is i in omega (arith, c, h))
+
+  pub so-far-next : (i : ℕ) → i < length old → set (so-far i) i (recordOf (stepAt ks bs ls ms is i)) ≡ so-far (i + 1)
   unfolding stepsIn
-  record-more l j h e {s} {q} g i =
-      one-more l j s h ∙ ap (λ (t : List QPtrChainStep). t ++ (s ∷ [])) e
-      ∙ ap (λ (r : QPtrChainStep). map recordOf (stepsIn ks bs ls ms is j) ++ (r ∷ [])) (i ∙ ap recordOf g)
-      ∙ sym (map-append recordOf (stepsIn ks bs ls ms is j) (stepAt ks bs ls ms is j ∷ []))
-      ∙ ap (λ (k : ℕ). map recordOf (stepsIn ks bs ls ms is k)) (sym (add-one j))
+  so-far-next i h =
+      let c = steps-count ks bs ls ms is i in
+      ap (λ (k : ℕ). set (so-far i) k (recordOf (stepAt ks bs ls ms is i))) (sym c)
+      ∙ over-next (stepsIn ks bs ls ms is i) (stepAt ks bs ls ms is i) old (omega (arith, c, h))
+      ∙ ap (λ (k : ℕ). recordsOver (stepsIn ks bs ls ms is k) old) (sym (add-one i))
 
-  module _ (size room : ℕ) (l : List QPtrChainStep) where
-    abbrev Fitted : Walk → Fit → Type 0
-    Fitted w f = take (f .n) l ≡ map recordOf (stepsIn ks bs ls ms is (f .n)) → Holds size (inRoom room length (heldBy w ks bs ls ms is)) l (f .n) (f .answer)
+  -- the records of a chain, once all are written
+  pub recorded-by : {result : Result (List QPtrOp)} {n : ℕ} {answer : ℤ} → Holds result n answer ks bs ls ms is → Recorded result answer old (so-far n)
+  recorded-by h = record { says = h .says; holds = ap (λ (l : List QPtrOp). recordsOver l old) (h .steps) }
 
-    -- how a test comes out decides both
-    by-test : (m : ℕ) (b : Bool) → m ≤ size → (f : Fit) → f ≡ cond b (record { n = 0; answer = negℤ (pos 24) }) record { n = m; answer = pos m } → take (f .n) l ≡ map recordOf (stepsIn ks bs ls ms is (f .n))
-        → Holds size ((refuse short-list when b) >> ok (stepsIn ks bs ls ms is m)) l (f .n) (f .answer)
-    unfolding _>>_ refuse_when_
-    by-test m true most f e h = rw e record { front = refl; counted = refl; within = zero-le; says = refl }
-    by-test m false most f e h =
-        let c = steps-count ks bs ls ms is m in
-        rw e record { front = rw e at h; counted = sym c; within = most; says = ap pos (sym c) }
-
-    by-walk : (w : Walk) → AtMost size w → Fitted w (fitOf room w)
-    unfolding inRoom _>>=_
-    by-walk (Refused e) most h = record { front = refl; counted = refl; within = zero-le; says = refl }
-    by-walk (Steps m) most h =
-        let c = steps-count ks bs ls ms is m in
-        rw c (by-test m (ltb room m) most (fitOf room (Steps m)) refl h)
-
-    pub fitted : (w : Walk) (f : Fit) → f ≡ fitOf room w → AtMost size w → Fitted w f
-    fitted w f e most = subst (λ (g : Fit). Fitted w g) (sym e) (by-walk w most)
-
-    pub told : (w : Walk) (f : Fit) → f ≡ fitOf room w → AtMost size w → {n j : ℕ} {answer : ℤ} → n ≡ f .n → answer ≡ f .answer → j ≡ f .n → take j l ≡ map recordOf (stepsIn ks bs ls ms is j)
-        → Holds size (inRoom room length (heldBy w ks bs ls ms is)) l n answer
-    told w f e most en ea ej h = rw (en, ea) (fitted w f e most (rw ej at h))
-
-pub wider : (w : Walk) → {a b : ℕ} → a ≤ b → AtMost a w → AtMost b w
-wider (Steps n) h g = omega (arith, h, g)
-wider (Refused e) h g = tt
-
-pub fit-within : (size room : ℕ) (w : Walk) {f : Fit} → f ≡ fitOf room w → AtMost size w → f .n ≤ size
-fit-within size room w e most = rw e (by w most)
-  where
-    test : (b : Bool) (m : ℕ) → m ≤ size → cond {A = Fit} b (record { n = 0; answer = negℤ (pos 24) }) record { n = m; answer = pos m } .n ≤ size
-    test true m h = zero-le
-    test false m h = h
-
-    by : (v : Walk) → AtMost size v → fitOf room v .n ≤ size
-    by (Steps m) h = test (ltb room m) m h
-    by (Refused n) h = zero-le
-
--- of a walk in lists of the code's own
-pub of-chain : (size : ℕ) (table : List ℕ) (op ptr : ℕ) (s : List ℕ) (room : ℕ) (few : length s ≤ 64 → size ≡ 9) (many : 64 < length s → size ≡ 256)
-    {w : Walk} {ks bs ls ms is ks′ bs′ ls′ ms′ is′ : List ℕ} → Wrote 0 (walkIn size table op ptr s) w ks bs ls ms is ks′ bs′ ls′ ms′ is′ → size ≤ roomOf ks bs ls ms is
-    → {l : List QPtrChainStep} {n : ℕ} {answer : ℤ} → Holds size (inRoom room length (heldBy w ks′ bs′ ls′ ms′ is′)) l n answer → Holds size (chainIn room table op ptr s) l n answer
-of-chain size table op ptr s room few many x wide {l} {n} {answer} h =
-    subst (λ (r : Result (List QPtrOp)). Holds size r l n answer) (ap (inRoom room length) (held-in table op ptr s size x wide) ∙ sym (in-lists table op ptr s room size few many)) h
-
--- the records of a chain, copied
-pub recorded-by : {size : ℕ} {result : Result (List QPtrOp)} {all old : List QPtrChainStep} {n i : ℕ} {answer : ℤ} → Holds size result all n answer → i ≡ n → Recorded result answer old (so-far all i old)
-recorded-by {size} {result} {all} {old} {n} {i} h e = record {
-  says = h .says;
-  holds = ap (λ (k : ℕ). so-far all k old) e ∙ ap (λ (l : List QPtrChainStep). l ++ drop n old) (h .front) ∙ ap (λ (k : ℕ). map recordOf (stepsOf result) ++ drop k old) (h .counted);
-}
+-- as many as the caller has room for
+pub holds-fit : (table : List ℕ) (op ptr : ℕ) (s : List ℕ) (room : ℕ) {n : ℕ} {answer : ℤ} {ks bs ls ms is : List ℕ} → Holds (chainIn room table op ptr s) n answer ks bs ls ms is → n ≤ room
+holds-fit table op ptr s room {n} {answer} {ks} {bs} {ls} {ms} {is} h =
+    let c = steps-count ks bs ls ms is n in
+    let e = ap (λ (l : List QPtrOp). length l) (h .steps) in
+    omega (arith, c, e, steps-fit table op ptr s room)

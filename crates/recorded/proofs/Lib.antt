@@ -1,8 +1,8 @@
-pub mod Copying
 pub mod Element
 pub mod EndToEnd
-pub mod Elems
 pub mod Laws
 pub mod Lists
-pub mod SoFar
+pub mod Loans
+pub mod Locals
+pub mod Lowering
 pub mod While

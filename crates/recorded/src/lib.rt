@@ -1,5 +1,5 @@
 // Steps of a chain as records, in a slice of records that the caller lends. Each function that has the slice is proved by a walk of its MIR, by
-// hand, and only copies; what decides and computes is covered.
+// hand, and only passes it on or stores what a covered function made; what decides and computes is covered.
 use lower::QPtrOp;
 use moves::Walk;
 use spirv::Index;
@@ -7,9 +7,10 @@ ghost use mathlib.Core.Path.{_≡_};
 ghost use Prim.Native.Nat.{_<_, _≤_};
 ghost use lib.IntN.{pos, negℤ};
 ghost use lib.ListN.{length};
-ghost use Rattle.arith.specs.Refusals.{inRoom};
-ghost use Rattle.tabled.specs.Chains.{chainIn, heldBy};
-ghost use Rattle.recorded.specs.Records.{indexed, recordOf, Recorded};
+ghost use Rattle.steps.specs.Lists.{stepAt, stepsIn};
+ghost use Rattle.chain.specs.Chains.{roomOf};
+ghost use Rattle.tabled.specs.Chains.{chainIn};
+ghost use Rattle.recorded.specs.Records.{indexed, recordOf, recordsOver, Recorded};
 ghost use Rattle.recorded.specs.Held.{AtMost, fitOf, Holds};
 
 // Op 1 is H, 2 B, 3 O, 4 D. The bytes are a constant offset's. An index of kind 0 is known, one of kind 1 not. What a step does not have is 0.
@@ -113,65 +114,84 @@ fn fit_in(room: usize, w: Walk) -> Fit
     }
 }
 
+// ---- the records of the steps that five lists hold
+
+fn record_at<'a>(
+    i: usize,
+    kinds: &'a [u32],
+    bytes: &'a [u32],
+    bounds: &'a [u32],
+    marks: &'a [u32],
+    indices: &'a [u32],
+) -> QPtrChainStep
+    ensures { λ r. ⌜ r ≡ recordOf (stepAt (now (kinds .entry)) (now (bytes .entry)) (now (bounds .entry)) (now (marks .entry)) (now (indices .entry)) i) ⌝ }
+{
+    record_of(steps::step_at(kinds, bytes, bounds, marks, indices, i))
+}
+
+// The first n into the slice: by hand.
+fn write_records<'s, 'a>(
+    steps: &'s mut [QPtrChainStep],
+    n: usize,
+    kinds: &'a [u32],
+    bytes: &'a [u32],
+    bounds: &'a [u32],
+    marks: &'a [u32],
+    indices: &'a [u32],
+)
+    requires { ⌜ n ≤ length (now steps) ⌝ }
+    ensures { λ _. ⌜ now (steps .exit) ≡ recordsOver (stepsIn (now (kinds .entry)) (now (bytes .entry)) (now (bounds .entry)) (now (marks .entry)) (now (indices .entry)) n) (now (steps .entry)) ⌝ }
+{
+    let mut i: usize = 0;
+    while i < n {
+        steps[i] = record_at(i, kinds, bytes, bounds, marks, indices);
+        i += 1;
+    }
+}
+
 // ---- at most 8 indices
 
-// The records of a chain by value, how many are written, and the answer.
-pub struct Short {
-    pub steps: [QPtrChainStep; 9],
-    pub n: usize,
-    pub answer: i64,
-}
-
-// The records of the steps that a walk left in five lists.
-fn short_of(
+// The steps of a chain in five lists, how many of them are written, and the answer.
+fn fit_few<'a, 'k>(
     room: usize,
-    w: Walk,
-    kinds: &[u32],
-    bytes: &[u32],
-    bounds: &[u32],
-    marks: &[u32],
-    indices: &[u32],
-) -> Short
-    requires { ⌜ AtMost 9 w ⌝ }
-    ensures { λ r. ⌜ Holds 9 (inRoom room length (heldBy w (now (kinds .entry)) (now (bytes .entry)) (now (bounds .entry)) (now (marks .entry)) (now (indices .entry)))) (r .steps) (r .n) (r .answer) ⌝ }
+    op: u32,
+    ptr: u32,
+    table: &'a [u32],
+    chain: &'a [u8],
+    kinds: &'k mut [u32],
+    bytes: &'k mut [u32],
+    bounds: &'k mut [u32],
+    marks: &'k mut [u32],
+    indices: &'k mut [u32],
+) -> Fit
+    requires { ⌜ (length (now chain) ≤ 64) × (roomOf (now kinds) (now bytes) (now bounds) (now marks) (now indices) ≡ 9) ⌝ }
+    ensures { λ r. ⌜ Holds (chainIn room (now (table .entry)) op ptr (now (chain .entry))) (r .n) (r .answer) (now (kinds .exit)) (now (bytes .exit)) (now (bounds .exit)) (now (marks .exit)) (now (indices .exit)) ⌝ }
 {
-    let none = QPtrChainStep {
-        op: 0,
-        bytes: 0,
-        stride: 0,
-        length: 0,
-        index_kind: 0,
-        index: 0,
-    };
-    let f = fit_in(room, w);
-    let n = f.n;
-    let mut p = Short {
-        steps: [none; 9],
-        n: f.n,
-        answer: f.answer,
-    };
-    let mut j: usize = 0;
-    while j < n {
-        let s = record_of(steps::step_at(kinds, bytes, bounds, marks, indices, j));
-        p.steps[j] = s;
-        j += 1;
-    }
-    p
+    let w = tabled::walk_few(table, op, ptr, chain, kinds, bytes, bounds, marks, indices);
+    fit_in(room, w)
 }
 
-fn short_chain<'a>(room: usize, op: u32, ptr: u32, table: &'a [u32], chain: &'a [u8]) -> Short
+// The records of a chain into the slice: by hand.
+fn lower_few<'s, 'a>(
+    steps: &'s mut [QPtrChainStep],
+    op: u32,
+    ptr: u32,
+    table: &'a [u32],
+    chain: &'a [u8],
+) -> i64
     requires { ⌜ length (now chain) ≤ 64 ⌝ }
-    ensures { λ r. ⌜ Holds 9 (chainIn room (now (table .entry)) op ptr (now (chain .entry))) (r .steps) (r .n) (r .answer) ⌝ }
+    ensures { λ r. ⌜ Recorded (chainIn (length (now (steps .entry))) (now (table .entry)) op ptr (now (chain .entry))) r (now (steps .entry)) (now (steps .exit)) ⌝ }
 {
     let mut kinds = [0u32; 9];
     let mut bytes = [0u32; 9];
     let mut bounds = [0u32; 9];
     let mut marks = [0u32; 9];
     let mut indices = [0u32; 9];
-    let w = tabled::walk_few(
-        table,
+    let f = fit_few(
+        steps.len(),
         op,
         ptr,
+        table,
         chain,
         &mut kinds,
         &mut bytes,
@@ -179,89 +199,52 @@ fn short_chain<'a>(room: usize, op: u32, ptr: u32, table: &'a [u32], chain: &'a 
         &mut marks,
         &mut indices,
     );
-    short_of(room, w, &kinds, &bytes, &bounds, &marks, &indices)
+    write_records(steps, f.n, &kinds, &bytes, &bounds, &marks, &indices);
+    f.answer
+}
+
+// ---- at most 255 indices
+
+fn fit_many<'a, 'k>(
+    room: usize,
+    op: u32,
+    ptr: u32,
+    table: &'a [u32],
+    chain: &'a [u8],
+    kinds: &'k mut [u32],
+    bytes: &'k mut [u32],
+    bounds: &'k mut [u32],
+    marks: &'k mut [u32],
+    indices: &'k mut [u32],
+) -> Fit
+    requires { ⌜ (64 < length (now chain)) × (roomOf (now kinds) (now bytes) (now bounds) (now marks) (now indices) ≡ 256) ⌝ }
+    ensures { λ r. ⌜ Holds (chainIn room (now (table .entry)) op ptr (now (chain .entry))) (r .n) (r .answer) (now (kinds .exit)) (now (bytes .exit)) (now (bounds .exit)) (now (marks .exit)) (now (indices .exit)) ⌝ }
+{
+    let w = tabled::walk_many(table, op, ptr, chain, kinds, bytes, bounds, marks, indices);
+    fit_in(room, w)
 }
 
 // The records of a chain into the slice: by hand.
-fn write_short<'s, 'a>(
+fn lower_many<'s, 'a>(
     steps: &'s mut [QPtrChainStep],
     op: u32,
     ptr: u32,
     table: &'a [u32],
     chain: &'a [u8],
 ) -> i64
-    requires { ⌜ length (now chain) ≤ 64 ⌝ }
-    ensures { λ r. ⌜ Recorded (chainIn (length (now (steps .entry))) (now (table .entry)) op ptr (now (chain .entry))) r (now (steps .entry)) (now (steps .exit)) ⌝ }
-{
-    let p = short_chain(steps.len(), op, ptr, table, chain);
-    let n = p.n;
-    let mut i: usize = 0;
-    while i < n {
-        steps[i] = p.steps[i];
-        i += 1;
-    }
-    p.answer
-}
-
-// ---- at most 255 indices
-
-// The records of a chain by value, how many are written, and the answer.
-pub struct Long {
-    pub steps: [QPtrChainStep; 256],
-    pub n: usize,
-    pub answer: i64,
-}
-
-// The records of the steps that a walk left in five lists.
-fn long_of(
-    room: usize,
-    w: Walk,
-    kinds: &[u32],
-    bytes: &[u32],
-    bounds: &[u32],
-    marks: &[u32],
-    indices: &[u32],
-) -> Long
-    requires { ⌜ AtMost 256 w ⌝ }
-    ensures { λ r. ⌜ Holds 256 (inRoom room length (heldBy w (now (kinds .entry)) (now (bytes .entry)) (now (bounds .entry)) (now (marks .entry)) (now (indices .entry)))) (r .steps) (r .n) (r .answer) ⌝ }
-{
-    let none = QPtrChainStep {
-        op: 0,
-        bytes: 0,
-        stride: 0,
-        length: 0,
-        index_kind: 0,
-        index: 0,
-    };
-    let f = fit_in(room, w);
-    let n = f.n;
-    let mut p = Long {
-        steps: [none; 256],
-        n: f.n,
-        answer: f.answer,
-    };
-    let mut j: usize = 0;
-    while j < n {
-        let s = record_of(steps::step_at(kinds, bytes, bounds, marks, indices, j));
-        p.steps[j] = s;
-        j += 1;
-    }
-    p
-}
-
-fn long_chain<'a>(room: usize, op: u32, ptr: u32, table: &'a [u32], chain: &'a [u8]) -> Long
     requires { ⌜ 64 < length (now chain) ⌝ }
-    ensures { λ r. ⌜ Holds 256 (chainIn room (now (table .entry)) op ptr (now (chain .entry))) (r .steps) (r .n) (r .answer) ⌝ }
+    ensures { λ r. ⌜ Recorded (chainIn (length (now (steps .entry))) (now (table .entry)) op ptr (now (chain .entry))) r (now (steps .entry)) (now (steps .exit)) ⌝ }
 {
     let mut kinds = [0u32; 256];
     let mut bytes = [0u32; 256];
     let mut bounds = [0u32; 256];
     let mut marks = [0u32; 256];
     let mut indices = [0u32; 256];
-    let w = tabled::walk_many(
-        table,
+    let f = fit_many(
+        steps.len(),
         op,
         ptr,
+        table,
         chain,
         &mut kinds,
         &mut bytes,
@@ -269,28 +252,8 @@ fn long_chain<'a>(room: usize, op: u32, ptr: u32, table: &'a [u32], chain: &'a [
         &mut marks,
         &mut indices,
     );
-    long_of(room, w, &kinds, &bytes, &bounds, &marks, &indices)
-}
-
-// The records of a chain into the slice: by hand.
-fn write_long<'s, 'a>(
-    steps: &'s mut [QPtrChainStep],
-    op: u32,
-    ptr: u32,
-    table: &'a [u32],
-    chain: &'a [u8],
-) -> i64
-    requires { ⌜ 64 < length (now chain) ⌝ }
-    ensures { λ r. ⌜ Recorded (chainIn (length (now (steps .entry))) (now (table .entry)) op ptr (now (chain .entry))) r (now (steps .entry)) (now (steps .exit)) ⌝ }
-{
-    let p = long_chain(steps.len(), op, ptr, table, chain);
-    let n = p.n;
-    let mut i: usize = 0;
-    while i < n {
-        steps[i] = p.steps[i];
-        i += 1;
-    }
-    p.answer
+    write_records(steps, f.n, &kinds, &bytes, &bounds, &marks, &indices);
+    f.answer
 }
 
 // ---- any chain
@@ -306,7 +269,7 @@ pub fn lower_access_chain<'s, 'a>(
     ensures { λ r. ⌜ Recorded (chainIn (length (now (steps .entry))) (now (table .entry)) op ptr (now (chain .entry))) r (now (steps .entry)) (now (steps .exit)) ⌝ }
 {
     if chain.len() <= 64 {
-        return write_short(steps, op, ptr, table, chain);
+        return lower_few(steps, op, ptr, table, chain);
     }
-    write_long(steps, op, ptr, table, chain)
+    lower_many(steps, op, ptr, table, chain)
 }
