@@ -11,9 +11,9 @@ use lib.IntN.{ℤ, pos, negsuc, negℤ, _-ℤ_}
 use lib.ListN.{length, set}
 use mir.Syntax.{w64}
 use mir.Val.{SFits}
-use borrow.Author.Tests.{le-leb, lt-leb, lt-ltb, ltb-false}
+use borrow.Author.Tests.{le-leb, lt-leb, lt-ltb}
 use Rattle.arith.specs.Refusals.{Result, ok, refused, _>>=_, _>>_, refuse_when_, inRoom, short-list}
-use Rattle.arith.proofs.Results.{went, passed, value-is, never}
+use Rattle.arith.proofs.Results.{went, passed, in-room}
 use Rattle.spirv.specs.declared.Index.the-variants.{Known, Unknown}
 use Rattle.lower.specs.declared.QPtrOp.{QPtrOp}
 use Rattle.lower.specs.declared.QPtrOp.the-variants.{HandleArrayIndex, BufferData, Offset, DynOffset}
@@ -53,21 +53,12 @@ minus-fits (suc e) h = record { sfits = omega arith }
 
 -- ---- rooms
 
-in-room : {A : Type 0} (room : ℕ) (r : Result (List A)) (l : List A) → inRoom room length r ≡ ok l → length l ≤ room
-unfolding inRoom _>>=_ _>>_ refuse_when_
-in-room room (refused n) l h = absurd (never h)
-in-room {A} room (ok x) l h = by (ltb room (length x)) refl h
-  where
-    by : (t : Bool) → ltb room (length x) ≡ t → ((refuse short-list when t) >> ok x) ≡ ok l → length l ≤ room
-    by true f g = absurd (never g)
-    by false f g = subst (λ (y : List A). length y ≤ room) (value-is g) (ltb-false room (length x) f)
-
 steps-within : (room : ℕ) (r : Result (List QPtrOp)) → length (stepsOf (inRoom room length r)) ≤ room
 steps-within room r = by (inRoom room length r) refl
   where
     by : (x : Result (List QPtrOp)) → inRoom room length r ≡ x → length (stepsOf x) ≤ room
     by (refused e) h = zero-le
-    by (ok steps) h = in-room room r steps h
+    by (ok steps) h = in-room room length r h
 
 module _ (table : List ℕ) (op ptr : ℕ) (s : List ℕ) where
   -- a walk's steps are as many as its lists hold
@@ -77,7 +68,7 @@ module _ (table : List ℕ) (op ptr : ℕ) (s : List ℕ) where
     where
       by : (x : Result (List QPtrOp)) → walkIn room table op ptr s ≡ x → AtMost room (walkOf 0 x)
       by (refused e) h = tt
-      by (ok steps) h = let w = went _ _ h in let k = in-room room _ steps (passed _ _ (passed _ _ (w .rest))) in omega arith
+      by (ok steps) h = let w = went _ _ h in let k = in-room room length _ (passed _ _ (passed _ _ (w .rest))) in omega arith
 
   -- and an answer's as many as the caller's
   pub steps-fit : (room : ℕ) → length (stepsOf (chainIn room table op ptr s)) ≤ room

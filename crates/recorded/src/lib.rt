@@ -9,7 +9,7 @@ ghost use lib.IntN.{pos, negℤ};
 ghost use lib.ListN.{length};
 ghost use Rattle.steps.specs.Lists.{stepAt, stepsIn};
 ghost use Rattle.chain.specs.Chains.{roomOf};
-ghost use Rattle.tabled.specs.Chains.{chainIn};
+ghost use Rattle.tabled.specs.Chains.{chainIn, walkFrom};
 ghost use Rattle.recorded.specs.Records.{indexed, recordOf, recordsOver, Recorded};
 ghost use Rattle.recorded.specs.Held.{AtMost, fitOf, Holds};
 
@@ -93,11 +93,11 @@ pub fn refusal(e: u32) -> i64
 }
 
 // All steps of a walk, or none where it is refused or there is no room for all.
-fn fit_in(room: usize, w: Walk) -> Fit
-    requires { ⌜ AtMost 256 w ⌝ }
-    ensures { λ r. ⌜ r ≡ fitOf room w ⌝ }
+fn fit_in(room: usize, w: u64) -> Fit
+    requires { ⌜ AtMost 256 (walkFrom w) ⌝ }
+    ensures { λ r. ⌜ r ≡ fitOf room (walkFrom w) ⌝ }
 {
-    match w {
+    match tabled::from_word(w) {
         Walk::Refused(e) => Fit {
             n: 0,
             answer: refusal(e),

@@ -13,7 +13,7 @@ use Rattle.spirv.specs.declared.Index.the-variants.{Known, Unknown}
 use Rattle.lower.specs.declared.QPtrOp.{QPtrOp}
 use Rattle.lower.specs.declared.QPtrOp.the-variants.{HandleArrayIndex, BufferData, Offset, DynOffset}
 use Rattle.lower.specs.Statements.{FitsStep, FitSteps}
-use Rattle.steps.specs.Words.{wordOf, withIndex, encode, offsetFits}
+use Rattle.steps.specs.Words.{wordOf, withIndex, encode}
 use Rattle.wire.proofs.Back.{FitWords, FitsWords}
 use Rattle.longest.proofs.Steps.{Numbers}
 

@@ -40,7 +40,7 @@ use Rattle.tabled.specs.declared.Asked.{Asked}
 use Rattle.tabled.specs.declared.Asked.the-variants as asked
 use Rattle.tabled.specs.declared.OpReading.{OpReading}
 use Rattle.tabled.specs.declared.OpReading.the-variants.{Op, Unknown}
-use Rattle.tabled.specs.Chains.{opOf, opIn, askedIn, askedOf, places, chainAt, chainOf, walkIn, chainIn, roomIn, Lowered, heldBy}
+use Rattle.tabled.specs.Chains.{opOf, opIn, askedIn, askedOf, places, chainAt, chainOf, walkIn, chainIn, roomIn, Lowered, heldBy, walkFrom, Countable}
 
 -- ---- counts
 
@@ -338,3 +338,26 @@ module _ (table : List ℕ) (op ptr : ℕ) (s : List ℕ) where
 
 pub by-result : {a b : Result (List QPtrOp)} {r : Walk} {old new : List ℕ} → a ≡ b → Lowered b r old new → Lowered a r old new
 by-result {a} {b} {r} {old} {new} e x = subst (λ (o : Result (List QPtrOp)). Lowered o r old new) (sym e) x
+
+-- ---- a walk's answer in one word
+
+pub word-steps : (w : Walk) (n : ℕ) → w ≡ Steps n → Countable w → walkFrom n ≡ w
+unfolding walkFrom
+word-steps w n e h = let k = rw e at h in rw (e, lt-ltb n 9223372036854775808 k)
+
+pub word-refusal : (w : Walk) (e : ℕ) → w ≡ Refused e → e < 4294967296 → walkFrom (9223372036854775808 + e) ≡ w
+unfolding walkFrom
+word-refusal w e h l = rw (h, le-ltb (9223372036854775808 + e) 9223372036854775808 (omega arith)) (ap Refused (omega (arith, l)))
+
+pub as-word : {n : ℕ} {result : Result (List QPtrOp)} {v w : Walk} {ks bs ls ms is ks′ bs′ ls′ ms′ is′ : List ℕ} → v ≡ w → Wrote n result w ks bs ls ms is ks′ bs′ ls′ ms′ is′ → Wrote n result v ks bs ls ms is ks′ bs′ ls′ ms′ is′
+as-word e x = record { says = e ∙ x .says; stored = x .stored }
+
+-- a walk's steps are as many as its lists hold
+pub countable : (room : ℕ) (cfg : LayoutConfig) (n : ℕ) (types layouts offsets members : List ℕ) (o : ChainOp) (ptr : ℕ) (chain : List ℕ) {w : Walk} {ks bs ls ms is ks′ bs′ ls′ ms′ is′ : List ℕ}
+    → Wrote 0 (chainOver room cfg n types layouts offsets members o ptr chain) w ks bs ls ms is ks′ bs′ ls′ ms′ is′ → room < 9223372036854775808 → Countable w
+unfolding chainOver
+countable room cfg n types layouts offsets members o ptr chain {w} x h = by (chainOver room cfg n types layouts offsets members o ptr chain) refl (x .says)
+  where
+    by : (r : Result (List QPtrOp)) → chainOver room cfg n types layouts offsets members o ptr chain ≡ r → w ≡ walkOf 0 r → Countable w
+    by (refused e) f g = subst Countable (sym g) tt
+    by (ok steps) f g = subst Countable (sym g) (let k = in-room room length _ (passed _ _ (passed _ _ f)) in omega (arith, k, h))

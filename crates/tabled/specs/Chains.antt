@@ -1,5 +1,5 @@
 -- Document 01, "as C functions on numbers and bytes": C over a table, by the number of the op and the bytes of the indices; the steps are bytes, too.
-use Prim.Native.Nat.{ℕ, _/_, min}
+use Prim.Native.Nat.{ℕ, _-_, _/_, _%_, _<_, min}
 use mathlib.Core.Path.{_≡_}
 use mathlib.Core.Bool.{cond}
 use mathlib.Core.List.{List}
@@ -100,3 +100,13 @@ pub record Lowered (result : Result (List QPtrOp)) (r : Walk) (old new : List �
 abbrev pub heldBy : Walk → (ks bs ls ms is : List ℕ) → Result (List QPtrOp)
 heldBy (Steps n) ks bs ls ms is = ok (stepsIn ks bs ls ms is n)
 heldBy (Refused e) ks bs ls ms is = refused e
+
+-- ---- a walk's answer as the code hands it on, in one word
+
+-- below 2 ^ 63 how many steps, else a refusal
+unfoldable pub walkFrom : ℕ → Walk
+walkFrom w = cond (ltb w 9223372036854775808) (Steps w) (Refused ((w - 9223372036854775808) % 4294967296))
+
+abbrev pub Countable : Walk → Type 0
+Countable (Steps n) = n < 9223372036854775808
+Countable (Refused e) = Unit {0}

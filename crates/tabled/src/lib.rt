@@ -9,7 +9,7 @@ ghost use lib.ListN.{length};
 ghost use Rattle.arith.specs.Refusals.{inRoom};
 ghost use Rattle.moves.specs.Written.{Wrote};
 ghost use Rattle.chain.specs.Chains.{roomOf};
-ghost use Rattle.tabled.specs.Chains.{opOf, askedIn, askedOf, chainOf, walkIn, chainIn, roomIn, Lowered, heldBy};
+ghost use Rattle.tabled.specs.Chains.{opOf, askedIn, askedOf, chainOf, walkIn, chainIn, roomIn, Lowered, heldBy, walkFrom, Countable};
 
 // The op that a number is, if it is one.
 pub enum OpReading {
@@ -61,7 +61,32 @@ pub fn ask(table: &[u32], op: u32, ptr: u32, chain: &[u8]) -> Asked
     }
 }
 
-// The steps of a chain over a table, by the words of its indices, into five lists.
+// ---- a walk's answer in one word: a word comes back in a register, an enum in memory that is copied at each call
+
+const REFUSAL: u64 = 9_223_372_036_854_775_808;
+
+fn to_word(w: Walk) -> u64
+    requires { ⌜ Countable w ⌝ }
+    ensures { λ r. ⌜ walkFrom r ≡ w ⌝ }
+{
+    match w {
+        Walk::Steps(n) => n as u64,
+        Walk::Refused(e) => REFUSAL + e as u64,
+    }
+}
+
+pub fn from_word(r: u64) -> Walk
+    ensures { λ w. ⌜ w ≡ walkFrom r ⌝ }
+{
+    if r < REFUSAL {
+        return Walk::Steps(r as usize);
+    }
+    Walk::Refused(((r - REFUSAL) % 4_294_967_296) as u32)
+}
+
+// ---- into five lists
+
+// The steps of a chain over a table, by the words of its indices, into five lists; the answer is a word.
 pub fn walk(
     table: &[u32],
     op: ChainOp,
@@ -72,8 +97,8 @@ pub fn walk(
     bounds: &mut [u32],
     marks: &mut [u32],
     indices: &mut [u32],
-) -> Walk
-    ensures { λ r. ⌜ Wrote 0 (chainOf (roomOf (now (kinds .entry)) (now (bytes .entry)) (now (bounds .entry)) (now (marks .entry)) (now (indices .entry))) (now (table .entry)) op ptr (now (chain .entry))) r (now (kinds .entry)) (now (bytes .entry)) (now (bounds .entry)) (now (marks .entry)) (now (indices .entry)) (now (kinds .exit)) (now (bytes .exit)) (now (bounds .exit)) (now (marks .exit)) (now (indices .exit)) ⌝ }
+) -> u64
+    ensures { λ r. ⌜ Wrote 0 (chainOf (roomOf (now (kinds .entry)) (now (bytes .entry)) (now (bounds .entry)) (now (marks .entry)) (now (indices .entry))) (now (table .entry)) op ptr (now (chain .entry))) (walkFrom r) (now (kinds .entry)) (now (bytes .entry)) (now (bounds .entry)) (now (marks .entry)) (now (indices .entry)) (now (kinds .exit)) (now (bytes .exit)) (now (bounds .exit)) (now (marks .exit)) (now (indices .exit)) ⌝ }
 {
     let n = spirv::word_at(table, 0);
     let cfg = shapes::words::setting_of(rows::span(table, 1, 6));
@@ -81,7 +106,7 @@ pub fn walk(
     let members = rows::span(table, 1543, 1024);
     let offsets = rows::span(table, 3591, 1024);
     let layouts = rows::span(table, 4615, 2560);
-    lowering::lower_access_chain(
+    to_word(lowering::lower_access_chain(
         cfg,
         n,
         types,
@@ -96,7 +121,7 @@ pub fn walk(
         bounds,
         marks,
         indices,
-    )
+    ))
 }
 
 // The steps of what is asked into five lists, by at most 8 indices: few words are cleared for them.
@@ -110,12 +135,12 @@ pub fn walk_few(
     bounds: &mut [u32],
     marks: &mut [u32],
     indices: &mut [u32],
-) -> Walk
+) -> u64
     requires { ⌜ length (now chain) ≤ 64 ⌝ }
-    ensures { λ r. ⌜ Wrote 0 (walkIn (roomOf (now (kinds .entry)) (now (bytes .entry)) (now (bounds .entry)) (now (marks .entry)) (now (indices .entry))) (now (table .entry)) op ptr (now (chain .entry))) r (now (kinds .entry)) (now (bytes .entry)) (now (bounds .entry)) (now (marks .entry)) (now (indices .entry)) (now (kinds .exit)) (now (bytes .exit)) (now (bounds .exit)) (now (marks .exit)) (now (indices .exit)) ⌝ }
+    ensures { λ r. ⌜ Wrote 0 (walkIn (roomOf (now (kinds .entry)) (now (bytes .entry)) (now (bounds .entry)) (now (marks .entry)) (now (indices .entry))) (now (table .entry)) op ptr (now (chain .entry))) (walkFrom r) (now (kinds .entry)) (now (bytes .entry)) (now (bounds .entry)) (now (marks .entry)) (now (indices .entry)) (now (kinds .exit)) (now (bytes .exit)) (now (bounds .exit)) (now (marks .exit)) (now (indices .exit)) ⌝ }
 {
     match ask(table, op, ptr, chain) {
-        Asked::Refused(e) => Walk::Refused(e),
+        Asked::Refused(e) => to_word(Walk::Refused(e)),
         Asked::Chain(o) => {
             let mut few = [0u32; 16];
             words::read_words(chain, &mut few);
@@ -136,11 +161,11 @@ pub fn walk_many(
     bounds: &mut [u32],
     marks: &mut [u32],
     indices: &mut [u32],
-) -> Walk
-    ensures { λ r. ⌜ Wrote 0 (walkIn (roomOf (now (kinds .entry)) (now (bytes .entry)) (now (bounds .entry)) (now (marks .entry)) (now (indices .entry))) (now (table .entry)) op ptr (now (chain .entry))) r (now (kinds .entry)) (now (bytes .entry)) (now (bounds .entry)) (now (marks .entry)) (now (indices .entry)) (now (kinds .exit)) (now (bytes .exit)) (now (bounds .exit)) (now (marks .exit)) (now (indices .exit)) ⌝ }
+) -> u64
+    ensures { λ r. ⌜ Wrote 0 (walkIn (roomOf (now (kinds .entry)) (now (bytes .entry)) (now (bounds .entry)) (now (marks .entry)) (now (indices .entry))) (now (table .entry)) op ptr (now (chain .entry))) (walkFrom r) (now (kinds .entry)) (now (bytes .entry)) (now (bounds .entry)) (now (marks .entry)) (now (indices .entry)) (now (kinds .exit)) (now (bytes .exit)) (now (bounds .exit)) (now (marks .exit)) (now (indices .exit)) ⌝ }
 {
     match ask(table, op, ptr, chain) {
-        Asked::Refused(e) => Walk::Refused(e),
+        Asked::Refused(e) => to_word(Walk::Refused(e)),
         Asked::Chain(o) => {
             let mut many = [0u32; 510];
             words::read_words(chain, &mut many);
@@ -154,7 +179,7 @@ pub fn walk_many(
 
 // The steps that a walk left in five lists, as bytes; 24 where these don't fit.
 fn put(
-    w: Walk,
+    w: u64,
     kinds: &[u32],
     bytes: &[u32],
     bounds: &[u32],
@@ -162,9 +187,9 @@ fn put(
     indices: &[u32],
     out: &mut [u8],
 ) -> Walk
-    ensures { λ r. ⌜ Lowered (inRoom (roomIn (now (out .entry))) length (heldBy w (now (kinds .entry)) (now (bytes .entry)) (now (bounds .entry)) (now (marks .entry)) (now (indices .entry)))) r (now (out .entry)) (now (out .exit)) ⌝ }
+    ensures { λ r. ⌜ Lowered (inRoom (roomIn (now (out .entry))) length (heldBy (walkFrom w) (now (kinds .entry)) (now (bytes .entry)) (now (bounds .entry)) (now (marks .entry)) (now (indices .entry)))) r (now (out .entry)) (now (out .exit)) ⌝ }
 {
-    match w {
+    match from_word(w) {
         Walk::Refused(e) => Walk::Refused(e),
         Walk::Steps(n) => {
             if out.len() / 20 < n {

@@ -7,11 +7,6 @@ use Rattle.tabled.proofs.Laws.{no-op, not-formed, no-type, too-long, al
 use borrow.Author.Needs.{needs}
 use Rattle.tabled.proofs.ask.Statement.{statement}
 use Rattle.tabled.proofs.ask.Tie as tie
-use Rattle.tabled.proofs.ask.Reads as reads
-use Rattle.tabled.proofs.ask.Lts as lts
-use Rattle.spirv.proofs.word_at.Reads as word-at-reads
-use Rattle.tabled.proofs.op_of.Reads as op-of-reads
-use Rattle.wire.proofs.formed.Reads as formed-reads
 
 -- src/lib.rt:72:11
 op-of-requires : tie.Need-op-of-requires

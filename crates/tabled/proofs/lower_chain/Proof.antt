@@ -6,10 +6,6 @@ use Rattle.tabled.proofs.Laws.{by-result, in-lists}
 use borrow.Author.Needs.{needs}
 use Rattle.tabled.proofs.lower_chain.Statement.{statement}
 use Rattle.tabled.proofs.lower_chain.Tie as tie
-use Rattle.tabled.proofs.lower_chain.Reads as reads
-use Rattle.tabled.proofs.lower_chain.Lts as lts
-use Rattle.tabled.proofs.lower_few.Reads as lower-few-reads
-use Rattle.tabled.proofs.lower_many.Reads as lower-many-reads
 
 -- src/lib.rt:231:9
 lower-few-requires : tie.Need-lower-few-requires

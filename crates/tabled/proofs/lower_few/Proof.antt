@@ -5,10 +5,6 @@ use Rattle.tabled.proofs.Laws.{lowered-is}
 use borrow.Author.Needs.{needs}
 use Rattle.tabled.proofs.lower_few.Statement.{statement}
 use Rattle.tabled.proofs.lower_few.Tie as tie
-use Rattle.tabled.proofs.lower_few.Reads as reads
-use Rattle.tabled.proofs.lower_few.Lts as lts
-use Rattle.tabled.proofs.put.Reads as put-reads
-use Rattle.tabled.proofs.walk_few.Reads as walk-few-reads
 
 -- src/lib.rt:194:9
 slice-aggregate-walk-few : tie.Need-slice-aggregate-walk-few

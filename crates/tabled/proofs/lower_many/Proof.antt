@@ -5,10 +5,6 @@ use Rattle.tabled.proofs.Laws.{lowered-is}
 use borrow.Author.Needs.{needs}
 use Rattle.tabled.proofs.lower_many.Statement.{statement}
 use Rattle.tabled.proofs.lower_many.Tie as tie
-use Rattle.tabled.proofs.lower_many.Reads as reads
-use Rattle.tabled.proofs.lower_many.Lts as lts
-use Rattle.tabled.proofs.put.Reads as put-reads
-use Rattle.tabled.proofs.walk_many.Reads as walk-many-reads
 
 -- src/lib.rt:217:9
 slice-aggregate-walk-many : tie.Need-slice-aggregate-walk-many

@@ -1,17 +1,12 @@
 -- `tabled::walk` meets its contract: the parts of the table. Assumes nothing.
 use denote.Ref.{now}
+use native.Mathlib.Omega.{arith}
 use mathlib.Core.Path.{_∙_, ap}
 use Rattle.shapes.specs.Settings.{settingOf}
-use Rattle.tabled.proofs.Laws.{wrote-over}
+use Rattle.tabled.proofs.Laws.{wrote-over, as-word, countable}
 use borrow.Author.Needs.{needs}
 use Rattle.tabled.proofs.walk.Statement.{statement}
 use Rattle.tabled.proofs.walk.Tie as tie
-use Rattle.tabled.proofs.walk.Reads as reads
-use Rattle.tabled.proofs.walk.Lts as lts
-use Rattle.lowering.proofs.lower_access_chain.Reads as lower-access-chain-reads
-use Rattle.shapes.proofs.rows.span.Reads as span-reads
-use Rattle.shapes.proofs.words.setting_of.Reads as setting-of-reads
-use Rattle.spirv.proofs.word_at.Reads as word-at-reads
 
 -- src/lib.rt:103:9
 word-at-requires : tie.Need-word-at-requires
@@ -45,6 +40,10 @@ span-requires-5 c κs = search needs
 lower-access-chain-requires : tie.Need-lower-access-chain-requires
 lower-access-chain-requires c κs = search needs
 
+-- src/lib.rt:109:5
+to-word-requires : tie.Need-to-word-requires
+to-word-requires c κs = countable _ _ _ _ _ _ _ _ _ _ (c .before .before .before .before .before .before .before .before .before .before .lower-access-chain .ensures) (omega (arith, c .before .before .before .before .before .before .before .before .before .before .before .before .before .before .before .before .before .before .before .before .before .before .before .before .before .before .before .before .before .before .good .1 .1 .1 .1 .0))
+
 -- src/lib.rt:90:1
 same-length : tie.Need-same-length
 same-length c = search needs
@@ -67,7 +66,7 @@ same-length-5 c = search needs
 
 -- src/lib.rt:90:1
 returns : tie.Need-returns
-returns c = wrote-over (now (c .before .before .before .before .before .before .before .before .before .before .before .before .before .before .before .before .before .before .before .before .before .before .before .before .before .before .before .before .before .before .args .table)) _ _ _ _ (c .before .before .before .before .before .before .before .before .before .before .before .before .before .before .before .before .before .before .before .before .before .before .word-at .ensures) ((c .before .before .before .before .before .before .before .before .before .before .before .before .before .before .before .before .before .before .before .before .setting-of .ensures) ∙ ap settingOf (c .before .before .before .before .before .before .before .before .before .before .before .before .before .before .before .before .before .before .before .before .before .span .ensures)) (c .before .before .before .before .before .before .before .before .before .before .before .before .before .before .before .before .before .before .before .span2 .ensures) (c .before .before .before .before .before .before .before .before .before .before .before .before .before .before .before .before .span5 .ensures) (c .before .before .before .before .before .before .before .before .before .before .before .before .before .before .before .before .before .span4 .ensures) (c .before .before .before .before .before .before .before .before .before .before .before .before .before .before .before .before .before .before .span3 .ensures) (c .before .before .before .before .before .before .before .before .before .before .lower-access-chain .ensures)
+returns c = as-word (c .to-word .ensures) (wrote-over (now (c .before .before .before .before .before .before .before .before .before .before .before .before .before .before .before .before .before .before .before .before .before .before .before .before .before .before .before .before .before .before .before .args .table)) _ _ _ _ (c .before .before .before .before .before .before .before .before .before .before .before .before .before .before .before .before .before .before .before .before .before .before .before .word-at .ensures) ((c .before .before .before .before .before .before .before .before .before .before .before .before .before .before .before .before .before .before .before .before .before .setting-of .ensures) ∙ ap settingOf (c .before .before .before .before .before .before .before .before .before .before .before .before .before .before .before .before .before .before .before .before .before .before .span .ensures)) (c .before .before .before .before .before .before .before .before .before .before .before .before .before .before .before .before .before .before .before .before .span2 .ensures) (c .before .before .before .before .before .before .before .before .before .before .before .before .before .before .before .before .before .span5 .ensures) (c .before .before .before .before .before .before .before .before .before .before .before .before .before .before .before .before .before .before .span4 .ensures) (c .before .before .before .before .before .before .before .before .before .before .before .before .before .before .before .before .before .before .before .span3 .ensures) (c .before .before .before .before .before .before .before .before .before .before .before .lower-access-chain .ensures))
 
 pub walk-spec : {M : Type 1} → statement M
 walk-spec =
@@ -81,6 +80,7 @@ walk-spec =
     span-requires-4
     span-requires-5
     lower-access-chain-requires
+    to-word-requires
     same-length
     same-length-2
     same-length-3

@@ -2,16 +2,10 @@
 use denote.Ref.{now}
 use mathlib.Core.Path.{_∙_}
 use native.Mathlib.Omega.{arith}
-use Rattle.tabled.proofs.Laws.{words-read, wrote-refused, wrote-chain}
+use Rattle.tabled.proofs.Laws.{words-read, wrote-refused, wrote-chain, as-word}
 use borrow.Author.Needs.{needs}
 use Rattle.tabled.proofs.walk_few.Statement.{statement}
 use Rattle.tabled.proofs.walk_few.Tie as tie
-use Rattle.tabled.proofs.walk_few.Reads as reads
-use Rattle.tabled.proofs.walk_few.Lts as lts
-use Rattle.shapes.proofs.rows.span.Reads as span-reads
-use Rattle.tabled.proofs.ask.Reads as ask-reads
-use Rattle.tabled.proofs.walk.Reads as walk-reads
-use Rattle.words.proofs.read_words.Reads as read-words-reads
 
 -- src/lib.rt:117:11
 ask-requires : tie.Need-ask-requires
@@ -20,6 +14,10 @@ ask-requires c κs = search needs
 -- src/lib.rt:118:24
 enum-known-e : tie.Need-enum-known-e
 enum-known-e c = search needs
+
+-- src/lib.rt:143:30
+to-word-requires : tie.Need-to-word-requires
+to-word-requires c κs = search needs
 
 -- src/lib.rt:119:22
 enum-known-o : tie.Need-enum-known-o
@@ -51,7 +49,7 @@ walk-requires c κs = search needs
 
 -- src/lib.rt:103:1
 returns : tie.Need-returns
-returns c = wrote-refused _ _ _ (now (c .before .before .before .before .before .before .before .before .before .before .before .args .chain)) _ _ (c .before .before .before .ask .ensures) (c .before .e .given .1) _ _ _ _ _
+returns c = as-word (c .to-word .ensures) (wrote-refused _ _ _ (now (c .before .before .before .before .before .before .before .before .before .before .before .before .args .chain)) _ _ (c .before .before .before .before .ask .ensures) (c .before .before .e .given .1) _ _ _ _ _)
 
 -- src/lib.rt:103:1
 same-length : tie.Need-same-length
@@ -83,6 +81,7 @@ walk-few-spec =
     (tie.spec
     ask-requires
     enum-known-e
+    to-word-requires
     enum-known-o
     slice-aggregate-read-words
     read-words-requires
