@@ -13,22 +13,22 @@ use mir.Syntax.{w64}
 use mir.Val.{SFits}
 use borrow.Author.Tests.{le-leb, lt-leb, lt-ltb}
 use Rattle.arith.specs.Refusals.{Result, ok, refused, _>>=_, _>>_, refuse_when_, inRoom, short-list}
-use Rattle.arith.proofs.Results.{went, passed, in-room}
+use Rattle.arith.proofs.Results.{in-room}
 use Rattle.spirv.specs.declared.Index.the-variants.{Known, Unknown}
 use Rattle.lower.specs.declared.QPtrOp.{QPtrOp}
 use Rattle.lower.specs.declared.QPtrOp.the-variants.{HandleArrayIndex, BufferData, Offset, DynOffset}
 use Rattle.steps.specs.Lists.{stepAt, stepsIn}
 use Rattle.moves.specs.declared.Walk.{Walk}
 use Rattle.moves.specs.declared.Walk.the-variants.{Steps, Refused}
-use Rattle.moves.specs.Written.{walkOf, stepsOf, Wrote}
+use Rattle.moves.specs.Written.{stepsOf, Wrote}
 use Rattle.chain.specs.Chains.{roomOf}
-use Rattle.pointers.specs.OverTables.{chainOver}
-use Rattle.tabled.specs.Chains.{walkIn, chainIn, heldBy}
+use Rattle.tabled.specs.Chains.{chainIn}
+use Rattle.tabled.specs.InCode.{walkIn, heldBy}
 use Rattle.tabled.proofs.Laws.{steps-count, in-lists, held-in}
 use Rattle.recorded.specs.declared.Fit.{Fit}
 use Rattle.recorded.specs.declared.QPtrChainStep.{QPtrChainStep}
 use Rattle.recorded.specs.Records.{recordOf, stepOf, ReadsBack, recordsOver, Recorded}
-use Rattle.recorded.specs.Held.{AtMost, fitOf, Holds}
+use Rattle.recorded.specs.Held.{fitOf, Holds}
 
 -- ---- a step is read back from its record
 
@@ -61,16 +61,7 @@ steps-within room r = by (inRoom room length r) refl
     by (ok steps) h = in-room room length r h
 
 module _ (table : List ℕ) (op ptr : ℕ) (s : List ℕ) where
-  -- a walk's steps are as many as its lists hold
-  at-most-in : (room : ℕ) → AtMost room (walkOf 0 (walkIn room table op ptr s))
-  unfolding walkIn chainOver
-  at-most-in room = by (walkIn room table op ptr s) refl
-    where
-      by : (x : Result (List QPtrOp)) → walkIn room table op ptr s ≡ x → AtMost room (walkOf 0 x)
-      by (refused e) h = tt
-      by (ok steps) h = let w = went _ _ h in let k = in-room room length _ (passed _ _ (passed _ _ (w .rest))) in omega arith
-
-  -- and an answer's as many as the caller's
+  -- an answer's steps are as many as the caller's list holds
   pub steps-fit : (room : ℕ) → length (stepsOf (chainIn room table op ptr s)) ≤ room
   steps-fit room =
       subst (λ (r : Result (List QPtrOp)). length (stepsOf r) ≤ room) (sym (in-lists table op ptr s room places few many)) (steps-within room (walkIn places table op ptr s))
@@ -105,13 +96,6 @@ module _ (ks bs ls ms is : List ℕ) where
 
     fitted : (w : Walk) (f : Fit) → f ≡ fitOf room w → Fitted w f
     fitted w f e = subst (λ (g : Fit). Fitted w g) (sym e) (by-walk w)
-
-wider : (w : Walk) → {a b : ℕ} → a ≤ b → AtMost a w → AtMost b w
-wider (Steps n) h g = omega (arith, h, g)
-wider (Refused e) h g = tt
-
-pub few-steps : {size room : ℕ} (table : List ℕ) (op ptr : ℕ) (s : List ℕ) {w : Walk} {ks bs ls ms is ks′ bs′ ls′ ms′ is′ : List ℕ} → room ≡ size → size ≤ 256 → Wrote 0 (walkIn room table op ptr s) w ks bs ls ms is ks′ bs′ ls′ ms′ is′ → AtMost 256 w
-few-steps {room = room} table op ptr s {w} e h x = wider w (omega (arith, e, h)) (subst (AtMost room) (sym (x .says)) (at-most-in table op ptr s room))
 
 -- of a walk in lists of the code's own
 pub of-chain : (size : ℕ) (table : List ℕ) (op ptr : ℕ) (s : List ℕ) (room : ℕ) (few : length s ≤ 64 → size ≡ 9) (many : 64 < length s → size ≡ 256)

@@ -1,3 +1,4 @@
+pub mod Body
 pub mod Element
 pub mod EndToEnd
 pub mod Laws

@@ -1,5 +1,5 @@
 -- What the code has of a lowered chain before it writes: the steps in five lists, how many of them are written, and the answer.
-use Prim.Native.Nat.{ℕ, _≤_}
+use Prim.Native.Nat.{ℕ}
 use mathlib.Core.Path.{_≡_}
 use mathlib.Core.Bool.{cond}
 use mathlib.Core.List.{List}
@@ -13,10 +13,6 @@ use Rattle.moves.specs.declared.Walk.the-variants.{Steps, Refused}
 use Rattle.moves.specs.Written.{stepsOf}
 use Rattle.recorded.specs.declared.Fit.{Fit}
 use Rattle.recorded.specs.Records.{countOf}
-
-abbrev pub AtMost : ℕ → Walk → Type 0
-AtMost most (Steps n) = n ≤ most
-AtMost most (Refused e) = Unit {0}
 
 abbrev nothing : ℕ → Fit
 nothing e = record { n = 0; answer = negℤ (pos e) }

@@ -9,9 +9,10 @@ ghost use lib.IntN.{pos, negℤ};
 ghost use lib.ListN.{length};
 ghost use Rattle.steps.specs.Lists.{stepAt, stepsIn};
 ghost use Rattle.chain.specs.Chains.{roomOf};
-ghost use Rattle.tabled.specs.Chains.{chainIn, walkFrom};
+ghost use Rattle.tabled.specs.Chains.{chainIn};
+ghost use Rattle.tabled.specs.InCode.{AtMost, walkFrom};
 ghost use Rattle.recorded.specs.Records.{indexed, recordOf, recordsOver, Recorded};
-ghost use Rattle.recorded.specs.Held.{AtMost, fitOf, Holds};
+ghost use Rattle.recorded.specs.Held.{fitOf, Holds};
 
 // Op 1 is H, 2 B, 3 O, 4 D. The bytes are a constant offset's. An index of kind 0 is known, one of kind 1 not. What a step does not have is 0.
 #[repr(C)]

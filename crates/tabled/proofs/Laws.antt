@@ -40,7 +40,8 @@ use Rattle.tabled.specs.declared.Asked.{Asked}
 use Rattle.tabled.specs.declared.Asked.the-variants as asked
 use Rattle.tabled.specs.declared.OpReading.{OpReading}
 use Rattle.tabled.specs.declared.OpReading.the-variants.{Op, Unknown}
-use Rattle.tabled.specs.Chains.{opOf, opIn, askedIn, askedOf, places, chainAt, chainOf, walkIn, chainIn, roomIn, Lowered, heldBy, walkFrom, Countable}
+use Rattle.tabled.specs.Chains.{opOf, opIn, askedIn, askedOf, places, chainAt, chainIn, roomIn, Lowered}
+use Rattle.tabled.specs.InCode.{chainOf, walkIn, heldBy, AtMost, wordOf, walkFrom, WordOf, Walked}
 
 -- ---- counts
 
@@ -330,10 +331,10 @@ module _ (table : List ℕ) (op ptr : ℕ) (s : List ℕ) where
       let q = walk-refused room e (is-refused h g) in
       record { says = rw q; stored = rw q record { kinds = refl; bytes = refl; bounds = refl; marks = refl; indices = refl } }
 
-  pub wrote-chain : (room : ℕ) {a : Asked} {o : ChainOp} → a ≡ askedOf (askedIn table op ptr s) → a ≡ asked.Chain o → {words : List ℕ} → words ≡ wordsOf s → {r : Walk} {ks bs ls ms is ks′ bs′ ls′ ms′ is′ : List ℕ}
-      → Wrote 0 (chainOf room table o ptr words) r ks bs ls ms is ks′ bs′ ls′ ms′ is′ → Wrote 0 (walkIn room table op ptr s) r ks bs ls ms is ks′ bs′ ls′ ms′ is′
-  wrote-chain room {a} {o} h g e {r} {ks} {bs} {ls} {ms} {is} {ks′} {bs′} {ls′} {ms′} {is′} x =
-      subst (λ (q : Result (List QPtrOp)). Wrote 0 q r ks bs ls ms is ks′ bs′ ls′ ms′ is′)
+  pub walked-chain : (room : ℕ) {a : Asked} {o : ChainOp} → a ≡ askedOf (askedIn table op ptr s) → a ≡ asked.Chain o → {words : List ℕ} → words ≡ wordsOf s → {r : ℕ} {ks bs ls ms is ks′ bs′ ls′ ms′ is′ : List ℕ}
+      → Walked (chainOf room table o ptr words) r ks bs ls ms is ks′ bs′ ls′ ms′ is′ → Walked (walkIn room table op ptr s) r ks bs ls ms is ks′ bs′ ls′ ms′ is′
+  walked-chain room {a} {o} h g e {r} {ks} {bs} {ls} {ms} {is} {ks′} {bs′} {ls′} {ms′} {is′} x =
+      subst (λ (q : Result (List QPtrOp)). Walked q r ks bs ls ms is ks′ bs′ ls′ ms′ is′)
       (ap (λ (v : List ℕ). chainOf room table o ptr v) e ∙ sym (walk-chain room o (is-chain h g))) x
 
 pub by-result : {a b : Result (List QPtrOp)} {r : Walk} {old new : List ℕ} → a ≡ b → Lowered b r old new → Lowered a r old new
@@ -341,23 +342,39 @@ by-result {a} {b} {r} {old} {new} e x = subst (λ (o : Result (List QPtrOp)). Lo
 
 -- ---- a walk's answer in one word
 
-pub word-steps : (w : Walk) (n : ℕ) → w ≡ Steps n → Countable w → walkFrom n ≡ w
+pub word-steps : (w : Walk) (n : ℕ) → w ≡ Steps n → AtMost 9223372036854775807 w → WordOf n w
 unfolding walkFrom
-word-steps w n e h = let k = rw e at h in rw (e, lt-ltb n 9223372036854775808 k)
+word-steps w n e h = let k = rw e at h in record { is = rw e; back = rw (e, lt-ltb n 9223372036854775808 (omega (arith, k))) }
 
-pub word-refusal : (w : Walk) (e : ℕ) → w ≡ Refused e → e < 4294967296 → walkFrom (9223372036854775808 + e) ≡ w
+pub word-refusal : (w : Walk) (e : ℕ) → w ≡ Refused e → e < 4294967296 → WordOf (9223372036854775808 + e) w
 unfolding walkFrom
-word-refusal w e h l = rw (h, le-ltb (9223372036854775808 + e) 9223372036854775808 (omega arith)) (ap Refused (omega (arith, l)))
+word-refusal w e h l = record { is = rw h; back = rw (h, le-ltb (9223372036854775808 + e) 9223372036854775808 (omega arith)) (ap Refused (omega (arith, l))) }
 
-pub as-word : {n : ℕ} {result : Result (List QPtrOp)} {v w : Walk} {ks bs ls ms is ks′ bs′ ls′ ms′ is′ : List ℕ} → v ≡ w → Wrote n result w ks bs ls ms is ks′ bs′ ls′ ms′ is′ → Wrote n result v ks bs ls ms is ks′ bs′ ls′ ms′ is′
-as-word e x = record { says = e ∙ x .says; stored = x .stored }
+pub walked : {result : Result (List QPtrOp)} {r : ℕ} {w : Walk} {ks bs ls ms is ks′ bs′ ls′ ms′ is′ : List ℕ} → WordOf r w → Wrote 0 result w ks bs ls ms is ks′ bs′ ls′ ms′ is′ → Walked result r ks bs ls ms is ks′ bs′ ls′ ms′ is′
+walked e x = record { answer = e .is ∙ ap wordOf (x .says); wrote = record { says = e .back ∙ x .says; stored = x .stored } }
 
--- a walk's steps are as many as its lists hold
-pub countable : (room : ℕ) (cfg : LayoutConfig) (n : ℕ) (types layouts offsets members : List ℕ) (o : ChainOp) (ptr : ℕ) (chain : List ℕ) {w : Walk} {ks bs ls ms is ks′ bs′ ls′ ms′ is′ : List ℕ}
-    → Wrote 0 (chainOver room cfg n types layouts offsets members o ptr chain) w ks bs ls ms is ks′ bs′ ls′ ms′ is′ → room < 9223372036854775808 → Countable w
+-- ---- a walk's steps are as many as its lists hold
+
+fits : (room : ℕ) (cfg : LayoutConfig) (n : ℕ) (types layouts offsets members : List ℕ) (o : ChainOp) (ptr : ℕ) (chain : List ℕ) → AtMost room (walkOf 0 (chainOver room cfg n types layouts offsets members o ptr chain))
 unfolding chainOver
-countable room cfg n types layouts offsets members o ptr chain {w} x h = by (chainOver room cfg n types layouts offsets members o ptr chain) refl (x .says)
+fits room cfg n types layouts offsets members o ptr chain = by (chainOver room cfg n types layouts offsets members o ptr chain) refl
   where
-    by : (r : Result (List QPtrOp)) → chainOver room cfg n types layouts offsets members o ptr chain ≡ r → w ≡ walkOf 0 r → Countable w
-    by (refused e) f g = subst Countable (sym g) tt
-    by (ok steps) f g = subst Countable (sym g) (let k = in-room room length _ (passed _ _ (passed _ _ f)) in omega (arith, k, h))
+    by : (r : Result (List QPtrOp)) → chainOver room cfg n types layouts offsets members o ptr chain ≡ r → AtMost room (walkOf 0 r)
+    by (refused e) f = tt
+    by (ok steps) f = let k = in-room room length _ (passed _ _ (passed _ _ f)) in omega (arith, k)
+
+wider : (w : Walk) → {a b : ℕ} → a ≤ b → AtMost a w → AtMost b w
+wider (Steps n) h g = omega (arith, h, g)
+wider (Refused e) h g = tt
+
+pub few-steps : (most room : ℕ) (cfg : LayoutConfig) (n : ℕ) (types layouts offsets members : List ℕ) (o : ChainOp) (ptr : ℕ) (chain : List ℕ) {w : Walk} {ks bs ls ms is ks′ bs′ ls′ ms′ is′ : List ℕ}
+    → Wrote 0 (chainOver room cfg n types layouts offsets members o ptr chain) w ks bs ls ms is ks′ bs′ ls′ ms′ is′ → room ≤ most → AtMost most w
+few-steps most room cfg n types layouts offsets members o ptr chain {w} x h = wider w h (subst (AtMost room) (sym (x .says)) (fits room cfg n types layouts offsets members o ptr chain))
+
+-- of what is asked
+pub few-asked : (most room : ℕ) (table : List ℕ) (op ptr : ℕ) (s : List ℕ) {w : Walk} {ks bs ls ms is ks′ bs′ ls′ ms′ is′ : List ℕ} → Wrote 0 (walkIn room table op ptr s) w ks bs ls ms is ks′ bs′ ls′ ms′ is′ → room ≤ most → AtMost most w
+few-asked most room table op ptr s {w} x h = wider w h (subst (AtMost room) (sym (x .says)) (by (askedIn table op ptr s) refl))
+  where
+    by : (a : Result ChainOp) → askedIn table op ptr s ≡ a → AtMost room (walkOf 0 (walkIn room table op ptr s))
+    by (refused e) g = subst (λ (r : Result (List QPtrOp)). AtMost room (walkOf 0 r)) (sym (walk-refused table op ptr s room e g)) tt
+    by (ok o) g = subst (λ (r : Result (List QPtrOp)). AtMost room (walkOf 0 r)) (sym (walk-chain table op ptr s room o g)) (fits room (settingIn table) (countIn table) (typesIn table) (layoutsIn table) (placesIn table) (membersIn table) o ptr (wordsOf s))

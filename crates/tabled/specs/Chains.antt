@@ -1,5 +1,5 @@
 -- Document 01, "as C functions on numbers and bytes": C over a table, by the number of the op and the bytes of the indices; the steps are bytes, too.
-use Prim.Native.Nat.{ℕ, _-_, _/_, _%_, _<_, min}
+use Prim.Native.Nat.{ℕ, _/_, min}
 use mathlib.Core.Path.{_≡_}
 use mathlib.Core.Bool.{cond}
 use mathlib.Core.List.{List}
@@ -14,12 +14,9 @@ use Rattle.sheet.specs.Tables.{over}
 use Rattle.components.specs.Found.{answersIn}
 use Rattle.lower.specs.declared.QPtrOp.{QPtrOp}
 use Rattle.lower.specs.Chain.{chainBy}
-use Rattle.steps.specs.Lists.{stepsIn}
-use Rattle.words.specs.Little.{wordsOf}
 use Rattle.moves.specs.declared.Walk.{Walk}
-use Rattle.moves.specs.declared.Walk.the-variants.{Steps, Refused}
 use Rattle.moves.specs.Written.{walkOf, stepsOf}
-use Rattle.pointers.specs.OverTables.{pointeeAt, chainOver}
+use Rattle.pointers.specs.OverTables.{pointeeAt}
 use Rattle.wire.specs.Wire.{indicesOf, stepsBytes}
 use Rattle.flat.specs.Table.{countIn, settingIn, typesIn, membersIn, placesIn, layoutsIn}
 use Rattle.tabled.specs.declared.Asked.{Asked}
@@ -75,16 +72,6 @@ chainIn room table op ptr bytes = do
   is ← indicesOf bytes
   chainAt room table o ptr is
 
--- by the words of the indices
-abbrev pub chainOf : (room : ℕ) → (table : List ℕ) → ChainOp → (ptr : ℕ) → (words : List ℕ) → Result (List QPtrOp)
-chainOf room table o ptr words = chainOver room (settingIn table) (countIn table) (typesIn table) (layoutsIn table) (placesIn table) (membersIn table) o ptr words
-
--- what is asked, in the room of the code's own lists
-unfoldable pub walkIn : (room : ℕ) → (table : List ℕ) → (op ptr : ℕ) → (bytes : List ℕ) → Result (List QPtrOp)
-walkIn room table op ptr bytes = do
-  o ← askedIn table op ptr bytes
-  chainOf room table o ptr (wordsOf bytes)
-
 -- ---- as bytes
 
 -- a step is 20 bytes
@@ -95,18 +82,3 @@ roomIn bytes = length bytes / 20
 pub record Lowered (result : Result (List QPtrOp)) (r : Walk) (old new : List ℕ) : Type 0 where
   pub says : r ≡ walkOf 0 result
   pub holds : new ≡ over (stepsBytes (stepsOf result)) old
-
--- the steps that a walk left in five lists
-abbrev pub heldBy : Walk → (ks bs ls ms is : List ℕ) → Result (List QPtrOp)
-heldBy (Steps n) ks bs ls ms is = ok (stepsIn ks bs ls ms is n)
-heldBy (Refused e) ks bs ls ms is = refused e
-
--- ---- a walk's answer as the code hands it on, in one word
-
--- below 2 ^ 63 how many steps, else a refusal
-unfoldable pub walkFrom : ℕ → Walk
-walkFrom w = cond (ltb w 9223372036854775808) (Steps w) (Refused ((w - 9223372036854775808) % 4294967296))
-
-abbrev pub Countable : Walk → Type 0
-Countable (Steps n) = n < 9223372036854775808
-Countable (Refused e) = Unit {0}

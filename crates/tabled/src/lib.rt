@@ -7,9 +7,9 @@ ghost use mathlib.Core.Path.{_≡_};
 ghost use Prim.Native.Nat.{_/_, _≤_};
 ghost use lib.ListN.{length};
 ghost use Rattle.arith.specs.Refusals.{inRoom};
-ghost use Rattle.moves.specs.Written.{Wrote};
 ghost use Rattle.chain.specs.Chains.{roomOf};
-ghost use Rattle.tabled.specs.Chains.{opOf, askedIn, askedOf, chainOf, walkIn, chainIn, roomIn, Lowered, heldBy, walkFrom, Countable};
+ghost use Rattle.tabled.specs.Chains.{opOf, askedIn, askedOf, chainIn, roomIn, Lowered};
+ghost use Rattle.tabled.specs.InCode.{chainOf, walkIn, heldBy, AtMost, walkFrom, WordOf, Walked};
 
 // The op that a number is, if it is one.
 pub enum OpReading {
@@ -66,8 +66,8 @@ pub fn ask(table: &[u32], op: u32, ptr: u32, chain: &[u8]) -> Asked
 const REFUSAL: u64 = 9_223_372_036_854_775_808;
 
 fn to_word(w: Walk) -> u64
-    requires { ⌜ Countable w ⌝ }
-    ensures { λ r. ⌜ walkFrom r ≡ w ⌝ }
+    requires { ⌜ AtMost 9223372036854775807 w ⌝ }
+    ensures { λ r. ⌜ WordOf r w ⌝ }
 {
     match w {
         Walk::Steps(n) => n as u64,
@@ -87,7 +87,7 @@ pub fn from_word(r: u64) -> Walk
 // ---- into five lists
 
 // The steps of a chain over a table, by the words of its indices, into five lists; the answer is a word.
-pub fn walk(
+fn walk(
     table: &[u32],
     op: ChainOp,
     ptr: u32,
@@ -98,7 +98,7 @@ pub fn walk(
     marks: &mut [u32],
     indices: &mut [u32],
 ) -> u64
-    ensures { λ r. ⌜ Wrote 0 (chainOf (roomOf (now (kinds .entry)) (now (bytes .entry)) (now (bounds .entry)) (now (marks .entry)) (now (indices .entry))) (now (table .entry)) op ptr (now (chain .entry))) (walkFrom r) (now (kinds .entry)) (now (bytes .entry)) (now (bounds .entry)) (now (marks .entry)) (now (indices .entry)) (now (kinds .exit)) (now (bytes .exit)) (now (bounds .exit)) (now (marks .exit)) (now (indices .exit)) ⌝ }
+    ensures { λ r. ⌜ Walked (chainOf (roomOf (now (kinds .entry)) (now (bytes .entry)) (now (bounds .entry)) (now (marks .entry)) (now (indices .entry))) (now (table .entry)) op ptr (now (chain .entry))) r (now (kinds .entry)) (now (bytes .entry)) (now (bounds .entry)) (now (marks .entry)) (now (indices .entry)) (now (kinds .exit)) (now (bytes .exit)) (now (bounds .exit)) (now (marks .exit)) (now (indices .exit)) ⌝ }
 {
     let n = spirv::word_at(table, 0);
     let cfg = shapes::words::setting_of(rows::span(table, 1, 6));
@@ -137,7 +137,7 @@ pub fn walk_few(
     indices: &mut [u32],
 ) -> u64
     requires { ⌜ length (now chain) ≤ 64 ⌝ }
-    ensures { λ r. ⌜ Wrote 0 (walkIn (roomOf (now (kinds .entry)) (now (bytes .entry)) (now (bounds .entry)) (now (marks .entry)) (now (indices .entry))) (now (table .entry)) op ptr (now (chain .entry))) (walkFrom r) (now (kinds .entry)) (now (bytes .entry)) (now (bounds .entry)) (now (marks .entry)) (now (indices .entry)) (now (kinds .exit)) (now (bytes .exit)) (now (bounds .exit)) (now (marks .exit)) (now (indices .exit)) ⌝ }
+    ensures { λ r. ⌜ Walked (walkIn (roomOf (now (kinds .entry)) (now (bytes .entry)) (now (bounds .entry)) (now (marks .entry)) (now (indices .entry))) (now (table .entry)) op ptr (now (chain .entry))) r (now (kinds .entry)) (now (bytes .entry)) (now (bounds .entry)) (now (marks .entry)) (now (indices .entry)) (now (kinds .exit)) (now (bytes .exit)) (now (bounds .exit)) (now (marks .exit)) (now (indices .exit)) ⌝ }
 {
     match ask(table, op, ptr, chain) {
         Asked::Refused(e) => to_word(Walk::Refused(e)),
@@ -162,7 +162,7 @@ pub fn walk_many(
     marks: &mut [u32],
     indices: &mut [u32],
 ) -> u64
-    ensures { λ r. ⌜ Wrote 0 (walkIn (roomOf (now (kinds .entry)) (now (bytes .entry)) (now (bounds .entry)) (now (marks .entry)) (now (indices .entry))) (now (table .entry)) op ptr (now (chain .entry))) (walkFrom r) (now (kinds .entry)) (now (bytes .entry)) (now (bounds .entry)) (now (marks .entry)) (now (indices .entry)) (now (kinds .exit)) (now (bytes .exit)) (now (bounds .exit)) (now (marks .exit)) (now (indices .exit)) ⌝ }
+    ensures { λ r. ⌜ Walked (walkIn (roomOf (now (kinds .entry)) (now (bytes .entry)) (now (bounds .entry)) (now (marks .entry)) (now (indices .entry))) (now (table .entry)) op ptr (now (chain .entry))) r (now (kinds .entry)) (now (bytes .entry)) (now (bounds .entry)) (now (marks .entry)) (now (indices .entry)) (now (kinds .exit)) (now (bytes .exit)) (now (bounds .exit)) (now (marks .exit)) (now (indices .exit)) ⌝ }
 {
     match ask(table, op, ptr, chain) {
         Asked::Refused(e) => to_word(Walk::Refused(e)),

@@ -22,15 +22,14 @@ use types.Kit.{Given, Item, ‵, raw, some, later, _⊛_, ⋆, frees, prop, atRe
 use types.Run.{look, init, forget, stop, hop, fld, from, load, lit, addr, of-opd, bin, and-then, no-more, assigns, land, first, skips, branches, returns, returns-within, enter, alloc1, alloc0, params1, pass1, pass0, free1, free0, exec}
 use types.Part.{agg, whole, sub, look-in}
 use sound.WpLaws.{fmOf, WpFn-mono}
-use denote.RattleType.{RattleType, Valss, flat, owns}
+use denote.RattleType.{Valss, flat, owns}
 use denote.Laws.{Is, shows}
 use denote.Memory.{pointee}
 use denote.Plain.{uint-vals, uint-tells, uint-makes}
 use denote.Signed.{SInt, sint-makes, sint-lawful}
-use denote.Builtin.{u8, u32}
+use denote.Builtin.{u32}
 use denote.Ref.{RefT}
 use denote.Slice.{sliceTy, sliceVal, MutSlice, Room, finally, slice-vals, mut-slice-tells}
-use denote.Signature.{plain}
 use denote.Steps.{owned, peeks, heard}
 use denote.Triple.Entry.{onEntry}
 use denote.Triple.Spec.{Meets, tripleOf}
@@ -38,13 +37,13 @@ use denote.Triple.Statement.{Contract, Triple}
 use denote.Triple.Call.{calls-at}
 use denote.Triple.Clauses.{ensured, lasts, Lasts}
 use denote.Triple.Table.{entered, cited}
-use denote.Triple.Walked.{says, Stays, gave-slice, stay-none, walkOf, AllGo, goes-gave-slice, goes-none, Walks, ends-at, walked, walk-meets}
-use denote.Exit.{yes}
+use denote.Triple.Walked.{says, gave-slice, walkOf, Walks, ends-at, walked, walk-meets}
 use Rattle.tabled.specs.Chains.{chainIn}
 use Rattle.recorded.specs.declared.QPtrChainStep.{QPtrChainStep}
 use Rattle.recorded.specs.Records.{Recorded}
 use Rattle.recorded.proofs.Element.{Row}
-use Rattle.recorded.proofs.Lists.{lists, stays, spells, vals, tell, Counts, counted, go, twice, list-of}
+use Rattle.recorded.proofs.Lists.{lists, spells, vals, tell, Counts, counted, twice, list-of}
+use Rattle.recorded.proofs.Lowering.{inputs, Inputs, stayed, goes}
 use Rattle.recorded.proofs.Locals.{word, slice, free}
 use Rattle.recorded.proofs.lower_few as lower-few
 use Rattle.recorded.proofs.lower_few.Symbol as lower-few-def
@@ -59,16 +58,6 @@ use Rattle.recorded.proofs.lower_access_chain as f
 use Rattle.recorded.proofs.lower_access_chain.Statement as stated
 use Rattle.recorded.proofs.lower_access_chain.Code as code
 use Rattle.recorded.proofs.lower_access_chain.Code.Mir as body
-
--- the inputs, which the function has at the end of its parameters
-abbrev inputs : List RattleType
-inputs = u32 ∷ u8 ∷ []
-
-abbrev stayed : Stays (f.ended .signature .params) (f.ended .kept)
-stayed = (gave-slice (0 ∷ []) tt (plain (λ _. Row)), (stay-none (λ _. u32) yes, (stay-none (λ _. u32) yes, stays inputs)))
-
-abbrev Inputs : Type 0
-Inputs = RefT (List ℕ) × (RefT (List ℕ) × Unit {0})
 
 abbrev Arg : Type 0
 Arg = RefT (List QPtrChainStep) × (ℕ × (ℕ × Inputs))
@@ -195,11 +184,8 @@ module _ {M : Type 1} (𝓤 : URA M) (H : Heap 𝓤) (A : Atoms 𝓤) (W : Given
       (λ κs qs bounds a g are. via 𝓤 _ (fst∗ 𝓤 _ (emp 𝓤))
       (walk (κs .0) (κs .1 .0) (qs .0) (qs .1 .0) (a .0 .ptr .0) (a .0 .ptr .1) (a .0 .name) (a .0 .now) (a .1 .0) (a .1 .1 .0) (a .1 .1 .1) (are .0 .0 .1) (are .1 .0 .1) (are .1 .1 .0 .1) 𝓣 known-few known-many (counted (κs .1 .0) inputs (a .1 .1 .1) (are .1 .1 .1))))
 
-  goes : AllGo 𝓤 H A W 2 (f.signature .params) (f.ended .kept) stayed
-  goes = (goes-gave-slice 𝓤 H A W 2 0 tt (plain (λ _. Row)), (goes-none 𝓤 H A W 2 (λ _. u32) yes (λ κs x f. refl), (goes-none 𝓤 H A W 2 (λ _. u32) yes (λ κs x f. refl), go 𝓤 H A W inputs)))
-
   lower-meets : (𝓣 : Tables 𝓤 H) → Triple 𝓤 (𝓣 .C #recorded·lower-few) Few → Triple 𝓤 (𝓣 .C #recorded·lower-many) Many → Meets 𝓤 H A f.signature (WpFn 𝓤 H (𝓣 .C) (𝓣 .Λ) code.function) (f.spec 𝓤 H A at-mem run)
-  lower-meets 𝓣 known-few known-many = walk-meets 𝓤 H A f.ended stayed W goes (f.clauses 𝓤 H A at-mem run) (WpFn 𝓤 H (𝓣 .C) (𝓣 .Λ) code.function) (WpFn-mono 𝓤 H (W .laws) 𝓣 code.function) (lower-walks 𝓣 known-few known-many)
+  lower-meets 𝓣 known-few known-many = walk-meets 𝓤 H A f.ended stayed W (goes 𝓤 H A W) (f.clauses 𝓤 H A at-mem run) (WpFn 𝓤 H (𝓣 .C) (𝓣 .Λ) code.function) (WpFn-mono 𝓤 H (W .laws) 𝓣 code.function) (lower-walks 𝓣 known-few known-many)
 
 pub lower-access-chain-spec : {M : Type 1} → stated.statement M
 unfolding code.routine tablesOf

@@ -1,6 +1,6 @@
 -- `tabled::from_word` meets its contract. Assumes nothing.
 use borrow.Author.Tests.{lt-ltb, le-ltb}
-use Rattle.tabled.specs.Chains.{walkFrom}
+use Rattle.tabled.specs.InCode.{walkFrom}
 use borrow.Author.Needs.{needs}
 use Rattle.tabled.proofs.from_word.Statement.{statement}
 use Rattle.tabled.proofs.from_word.Tie as tie

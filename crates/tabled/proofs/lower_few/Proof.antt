@@ -60,7 +60,7 @@ same-length c = search needs
 
 -- src/lib.rt:180:1
 returns : tie.Need-returns
-returns c = lowered-is (now (c .before .before .before .before .before .before .before .before .before .before .before .before .before .before .before .before .before .before .before .before .before .before .before .args .table)) _ _ (now (c .before .before .before .before .before .before .before .before .before .before .before .before .before .before .before .before .before .before .before .before .before .before .before .args .chain)) 9 (c .before .before .before .before .before .before .before .before .before .before .before .before .before .before .walk-few .ensures) (omega arith) (c .before .before .put .ensures)
+returns c = lowered-is (now (c .before .before .before .before .before .before .before .before .before .before .before .before .before .before .before .before .before .before .before .before .before .before .before .args .table)) _ _ (now (c .before .before .before .before .before .before .before .before .before .before .before .before .before .before .before .before .before .before .before .before .before .before .before .args .chain)) 9 (c .before .before .before .before .before .before .before .before .before .before .before .before .before .before .walk-few .ensures .wrote) (omega arith) (c .before .before .put .ensures)
 
 pub lower-few-spec : {M : Type 1} → statement M
 lower-few-spec =

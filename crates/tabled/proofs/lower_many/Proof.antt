@@ -60,7 +60,7 @@ same-length c = search needs
 
 -- src/lib.rt:204:1
 returns : tie.Need-returns
-returns c = lowered-is (now (c .before .before .before .before .before .before .before .before .before .before .before .before .before .before .before .before .before .before .before .before .before .before .before .args .table)) _ _ (now (c .before .before .before .before .before .before .before .before .before .before .before .before .before .before .before .before .before .before .before .before .before .before .before .args .chain)) 256 (c .before .before .before .before .before .before .before .before .before .before .before .before .before .before .walk-many .ensures) (omega arith) (c .before .before .put .ensures)
+returns c = lowered-is (now (c .before .before .before .before .before .before .before .before .before .before .before .before .before .before .before .before .before .before .before .before .before .before .before .args .table)) _ _ (now (c .before .before .before .before .before .before .before .before .before .before .before .before .before .before .before .before .before .before .before .before .before .before .before .args .chain)) 256 (c .before .before .before .before .before .before .before .before .before .before .before .before .before .before .walk-many .ensures .wrote) (omega arith) (c .before .before .put .ensures)
 
 pub lower-many-spec : {M : Type 1} → statement M
 lower-many-spec =

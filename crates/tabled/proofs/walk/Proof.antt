@@ -3,7 +3,7 @@ use denote.Ref.{now}
 use native.Mathlib.Omega.{arith}
 use mathlib.Core.Path.{_∙_, ap}
 use Rattle.shapes.specs.Settings.{settingOf}
-use Rattle.tabled.proofs.Laws.{wrote-over, as-word, countable}
+use Rattle.tabled.proofs.Laws.{wrote-over, walked, few-steps}
 use borrow.Author.Needs.{needs}
 use Rattle.tabled.proofs.walk.Statement.{statement}
 use Rattle.tabled.proofs.walk.Tie as tie
@@ -42,7 +42,7 @@ lower-access-chain-requires c κs = search needs
 
 -- src/lib.rt:109:5
 to-word-requires : tie.Need-to-word-requires
-to-word-requires c κs = countable _ _ _ _ _ _ _ _ _ _ (c .before .before .before .before .before .before .before .before .before .before .lower-access-chain .ensures) (omega (arith, c .before .before .before .before .before .before .before .before .before .before .before .before .before .before .before .before .before .before .before .before .before .before .before .before .before .before .before .before .before .before .good .1 .1 .1 .1 .0))
+to-word-requires c κs = few-steps _ _ _ _ _ _ _ _ _ _ _ (c .before .before .before .before .before .before .before .before .before .before .lower-access-chain .ensures) (omega (arith, c .before .before .before .before .before .before .before .before .before .before .before .before .before .before .before .before .before .before .before .before .before .before .before .before .before .before .before .before .before .before .good .1 .1 .1 .1 .0))
 
 -- src/lib.rt:90:1
 same-length : tie.Need-same-length
@@ -66,7 +66,7 @@ same-length-5 c = search needs
 
 -- src/lib.rt:90:1
 returns : tie.Need-returns
-returns c = as-word (c .to-word .ensures) (wrote-over (now (c .before .before .before .before .before .before .before .before .before .before .before .before .before .before .before .before .before .before .before .before .before .before .before .before .before .before .before .before .before .before .before .args .table)) _ _ _ _ (c .before .before .before .before .before .before .before .before .before .before .before .before .before .before .before .before .before .before .before .before .before .before .before .word-at .ensures) ((c .before .before .before .before .before .before .before .before .before .before .before .before .before .before .before .before .before .before .before .before .before .setting-of .ensures) ∙ ap settingOf (c .before .before .before .before .before .before .before .before .before .before .before .before .before .before .before .before .before .before .before .before .before .before .span .ensures)) (c .before .before .before .before .before .before .before .before .before .before .before .before .before .before .before .before .before .before .before .before .span2 .ensures) (c .before .before .before .before .before .before .before .before .before .before .before .before .before .before .before .before .before .span5 .ensures) (c .before .before .before .before .before .before .before .before .before .before .before .before .before .before .before .before .before .before .span4 .ensures) (c .before .before .before .before .before .before .before .before .before .before .before .before .before .before .before .before .before .before .before .span3 .ensures) (c .before .before .before .before .before .before .before .before .before .before .before .lower-access-chain .ensures))
+returns c = walked (c .to-word .ensures) (wrote-over (now (c .before .before .before .before .before .before .before .before .before .before .before .before .before .before .before .before .before .before .before .before .before .before .before .before .before .before .before .before .before .before .before .args .table)) _ _ _ _ (c .before .before .before .before .before .before .before .before .before .before .before .before .before .before .before .before .before .before .before .before .before .before .before .word-at .ensures) ((c .before .before .before .before .before .before .before .before .before .before .before .before .before .before .before .before .before .before .before .before .before .setting-of .ensures) ∙ ap settingOf (c .before .before .before .before .before .before .before .before .before .before .before .before .before .before .before .before .before .before .before .before .before .before .span .ensures)) (c .before .before .before .before .before .before .before .before .before .before .before .before .before .before .before .before .before .before .before .before .span2 .ensures) (c .before .before .before .before .before .before .before .before .before .before .before .before .before .before .before .before .before .span5 .ensures) (c .before .before .before .before .before .before .before .before .before .before .before .before .before .before .before .before .before .before .span4 .ensures) (c .before .before .before .before .before .before .before .before .before .before .before .before .before .before .before .before .before .before .before .span3 .ensures) (c .before .before .before .before .before .before .before .before .before .before .before .lower-access-chain .ensures))
 
 pub walk-spec : {M : Type 1} → statement M
 walk-spec =

@@ -2,7 +2,7 @@
 use denote.Ref.{now}
 use mathlib.Core.Path.{_∙_}
 use native.Mathlib.Omega.{arith}
-use Rattle.tabled.proofs.Laws.{words-read, wrote-refused, wrote-chain, as-word}
+use Rattle.tabled.proofs.Laws.{words-read, wrote-refused, walked-chain, walked}
 use borrow.Author.Needs.{needs}
 use Rattle.tabled.proofs.walk_few.Statement.{statement}
 use Rattle.tabled.proofs.walk_few.Tie as tie
@@ -49,7 +49,7 @@ walk-requires c κs = search needs
 
 -- src/lib.rt:103:1
 returns : tie.Need-returns
-returns c = as-word (c .to-word .ensures) (wrote-refused _ _ _ (now (c .before .before .before .before .before .before .before .before .before .before .before .before .args .chain)) _ _ (c .before .before .before .before .ask .ensures) (c .before .before .e .given .1) _ _ _ _ _)
+returns c = walked (c .to-word .ensures) (wrote-refused _ _ _ (now (c .before .before .before .before .before .before .before .before .before .before .before .before .args .chain)) _ _ (c .before .before .before .before .ask .ensures) (c .before .before .e .given .1) _ _ _ _ _)
 
 -- src/lib.rt:103:1
 same-length : tie.Need-same-length
@@ -73,7 +73,7 @@ same-length-5 c = search needs
 
 -- src/lib.rt:103:1
 returns-2 : tie.Need-returns-2
-returns-2 c = wrote-chain _ _ _ (now (c .before .before .before .before .before .before .before .before .before .before .before .before .before .before .before .before .before .before .before .before .before .before .before .before .before .before .before .before .before .before .before .before .args .chain)) _ (c .before .before .before .before .before .before .before .before .before .before .before .before .before .before .before .before .before .before .before .before .before .before .before .before .ask .ensures) (c .before .before .before .before .before .before .before .before .before .before .before .before .before .before .before .before .before .before .before .before .before .before .o .given .1) ((c .before .before .before .before .before .before .before .before .before .before .before .before .before .before .before .before .span .ensures) ∙ words-read 16 (now (c .before .before .before .before .before .before .before .before .before .before .before .before .before .before .before .before .before .before .before .before .before .before .before .before .before .before .before .before .before .before .before .before .args .chain)) (omega (arith, (c .before .before .before .before .before .before .before .before .before .before .before .before .before .before .before .before .before .before .before .before .before .before .before .before .before .before .before .before .before .before .before .before .pre))) (c .before .before .before .before .before .before .before .before .before .before .before .before .before .before .before .before .before .before .before .read-words .ensures)) (c .before .before .before .before .before .before .before .before .before .before .walk .ensures)
+returns-2 c = walked-chain _ _ _ (now (c .before .before .before .before .before .before .before .before .before .before .before .before .before .before .before .before .before .before .before .before .before .before .before .before .before .before .before .before .before .before .before .before .args .chain)) _ (c .before .before .before .before .before .before .before .before .before .before .before .before .before .before .before .before .before .before .before .before .before .before .before .before .ask .ensures) (c .before .before .before .before .before .before .before .before .before .before .before .before .before .before .before .before .before .before .before .before .before .before .o .given .1) ((c .before .before .before .before .before .before .before .before .before .before .before .before .before .before .before .before .span .ensures) ∙ words-read 16 (now (c .before .before .before .before .before .before .before .before .before .before .before .before .before .before .before .before .before .before .before .before .before .before .before .before .before .before .before .before .before .before .before .before .args .chain)) (omega (arith, (c .before .before .before .before .before .before .before .before .before .before .before .before .before .before .before .before .before .before .before .before .before .before .before .before .before .before .before .before .before .before .before .before .pre))) (c .before .before .before .before .before .before .before .before .before .before .before .before .before .before .before .before .before .before .before .read-words .ensures)) (c .before .before .before .before .before .before .before .before .before .before .walk .ensures)
 
 pub walk-few-spec : {M : Type 1} → statement M
 walk-few-spec =
