@@ -1,21 +1,15 @@
 /* The C functions of libqptr.a. A list is handed over as its address and its length. A negative answer is minus the number of a refusal, and then
-   every lent list is as it was. Two lists of one call must not overlap. A list of length 0 may have any address, NULL too. A call takes up to half a
-   megabyte of stack, most for long chains. */
+   every lent list is as it was. A call takes up to half a megabyte of stack, most for long chains. */
 #ifndef QPTR_H
 #define QPTR_H
 #include <stddef.h>
 #include <stdint.h>
 
-#define QPTR_VERSION "0.1.0"
-
-#define QPTR_TABLE_WORDS 7431 /* words of a sheet's table */
+#define QPTR_TABLE_WORDS 7175 /* words of a sheet's table */
 #define QPTR_INDEX_BYTES 8    /* an index: its word, then 0 (known) or 1 (unknown); words are little-endian */
 #define QPTR_STEP_BYTES 20    /* a step: kind, bytes or stride, length or 0, 1 where its index is unknown, the index */
 #define QPTR_MOST_STEPS 256   /* steps of a chain of 255 indices, the most there can be */
 #define QPTR_MOST_MEMBERS 1024 /* members of a sheet, and so components that can hold a range */
-#define QPTR_END 4294967296   /* the very end of an array, from qptr_find_components: no count is that large */
-#define QPTR_MOST_EVENTS 1024 /* events of a log, from qptr_compare_captures */
-#define QPTR_END_WORD 4294967295 /* the very end of an array, among the words of qptr_compare_captures: no count is that large */
 
 enum qptr_step_kind { QPTR_HANDLE_ARRAY_INDEX = 1, QPTR_BUFFER_DATA = 2, QPTR_OFFSET = 3, QPTR_DYN_OFFSET = 4 };
 
@@ -49,8 +43,7 @@ enum qptr_refusal {
     QPTR_NO_BUFFER = 25,
     QPTR_NO_RUNTIME_ARRAY = 26,
     QPTR_NOT_LAST = 27,
-    QPTR_REVERSED = 28,
-    QPTR_BAD_EVENT = 36
+    QPTR_REVERSED = 28
 };
 
 #ifdef __cplusplus
@@ -60,9 +53,7 @@ extern "C" {
 /* The answer lines of a sheet, as `lay` writes them; how many bytes. */
 int64_t qptr_answer_sheet(const uint8_t *sheet, size_t sheet_len, uint8_t *out, size_t out_len);
 
-/* Reads a sheet into a table; how many types.
-   What the words of a table mean is no promise, and a table is no form to keep: read the sheet again with each version. A pointer's row has got words for
-   the stride that the pointer may carry (P,class,pointee,stride): in a table of a version before that, chains of 67 and 70 are refused by 8. */
+/* Reads a sheet into a table; how many types. */
 int64_t qptr_read_sheet(const uint8_t *sheet, size_t sheet_len, uint32_t *table, size_t table_len);
 
 /* Lowers a chain, op 65, 66, 67 or 70; how many steps. */
@@ -83,36 +74,18 @@ struct qptr_chain_step {
 int64_t qptr_lower_chain_steps(const uint32_t *table, size_t table_len, uint32_t op, uint32_t ptr, const uint8_t *indices, size_t indices_len,
                                struct qptr_chain_step *steps, size_t steps_len);
 
-/* The layout of a type, 8 words and the offsets of its fields: form (enum qptr_form), length of a handle array or 0, size, end of the last data
-   byte, alignment, legacy alignment, runtime stride or 0, stride of an array or 0; how many words. */
+/* The layout of a type, 7 words and the offsets of its fields: form (enum qptr_form), length of a handle array or 0, size, alignment, legacy
+   alignment, runtime stride or 0, stride of an array or 0; how many words. */
 int64_t qptr_type_layout(const uint32_t *table, size_t table_len, uint32_t ty, uint32_t *out, size_t out_len);
 
-/* The components of a type that hold the bytes from start to end, rising; how many. QPTR_END, and the list as it was, at the very end of an array,
-   where an empty range begins behind the last element: it takes no place, so the list may be of length 0. */
+/* The components of a type that hold the bytes from start to end, rising; how many. */
 int64_t qptr_find_components(const uint32_t *table, size_t table_len, uint32_t ty, uint32_t start, uint32_t end, uint32_t *out, size_t out_len);
-
-/* Whether two types are equal: 1 or 0. They are where their layouts' lines are, and they are of the same kind, width and length, with the same Block
-   mark, and their elements or members are pairwise equal; pointers need equal class, pointees and strides aren't compared; opaque types are equal
-   only by number. A number that is no type is -1 before the first type's refusal and the second's. It takes a kilobyte of stack. */
-int64_t qptr_equal_types(const uint32_t *table, size_t table_len, uint32_t first, uint32_t second);
 
 /* Where a runtime array that ends a block begins, and its stride: 2 words. */
 int64_t qptr_array_length(const uint32_t *table, size_t table_len, uint32_t ptr, uint32_t member, uint32_t *out, size_t out_len);
 
 /* The size, alignment and legacy alignment of a local variable, 3 words; or none, 0, where it isn't memory of a fixed size. */
 int64_t qptr_local_variable(const uint32_t *table, size_t table_len, uint32_t ptr, uint32_t *out, size_t out_len);
-
-/* Two captures of one frame, compared on a type. A log is lines `lane,start,end` of plain decimal numbers below 2^32, each with its LF; an empty log has no
-   event. How many words:
-     word 0        0 where each event occurs equally often in both logs, else 1
-     words 1 to 3  lane, start and end of the least event, by these, whose counts differ; 0 where there is none
-     word 4        how many events the first log has
-     then          for each of them, in its order, how many components of the type hold it, and these, rising, as qptr_find_components has them;
-                   QPTR_END_WORD and nothing behind it at the very end of an array
-   At most 5 + 1,024 * 1,025 words. Refused, in this order, by 2 (more than QPTR_MOST_EVENTS LFs in either log), 1 (no type), 36 (an event of either log that
-   is misread, reversed or without its LF), the type's layout, 19 (a handle), 24. */
-int64_t qptr_compare_captures(const uint32_t *table, size_t table_len, uint32_t ty, const uint8_t *first, size_t first_len, const uint8_t *second,
-                              size_t second_len, uint32_t *out, size_t out_len);
 
 #ifdef __cplusplus
 }

@@ -36,7 +36,7 @@ unsafe extern "C" {
 /// QPtrChainStep: op, bytes, stride, length, index kind, index.
 type Record = [u32; 6];
 
-const TABLE_WORDS: usize = 7431;
+const TABLE_WORDS: usize = 7175;
 const REPETITIONS: usize = 40;
 
 // ---- ours

@@ -5,7 +5,7 @@
 #include <string.h>
 
 static const char sheet[] = "G,1,1,1,1,1,1\nF,32\nV,0,3\nS,0,2,1,0\nR,2,-\nS,1,1,3\nP,12,4\nT,2\nC,65,5,0,v1,1\nC,65,5,0,2,0\nQ,2,12,16\n";
-static const char answers[] = "t,c,0,16,16,4,16,0,0,12\nc,B,D,16,0,v1,O,12\nc,B,O,32\nq,1\n";
+static const char answers[] = "t,c,0,16,4,16,0,0,12\nc,B,D,16,0,v1,O,12\nc,B,O,32\nq,1\n";
 static uint32_t table[QPTR_TABLE_WORDS];
 static int differing;
 
@@ -38,15 +38,14 @@ int main(void) {
     uint32_t found[16];
     same("components", qptr_find_components(table, QPTR_TABLE_WORDS, 2, 12, 16, found, 4), 1);
     same("the component", found[0], 1);
-    same("the end of an array", qptr_find_components(table, QPTR_TABLE_WORDS, 1, 12, 12, NULL, 0), QPTR_END);
     same("reversed", qptr_find_components(table, QPTR_TABLE_WORDS, 2, 16, 12, found, 4), -QPTR_REVERSED);
     same("array length", qptr_array_length(table, QPTR_TABLE_WORDS, 5, 0, found, 4), 2);
     same("its offset", found[0], 0);
     same("its stride", found[1], 16);
-    const uint32_t layout[] = {QPTR_MEMORY, 0, 16, 16, 4, 16, 0, 0, 0, 12};
-    same("layout", qptr_type_layout(table, QPTR_TABLE_WORDS, 2, found, 16), 10);
-    for (size_t i = 0; i < 10; i++) same("a word of a layout", found[i], layout[i]);
+    const uint32_t layout[] = {QPTR_MEMORY, 0, 16, 4, 16, 0, 0, 0, 12};
+    same("layout", qptr_type_layout(table, QPTR_TABLE_WORDS, 2, found, 16), 9);
+    for (size_t i = 0; i < 9; i++) same("a word of a layout", found[i], layout[i]);
     same("local variable", qptr_local_variable(table, QPTR_TABLE_WORDS, 5, found, 16), 0);
-    if (!differing) printf("as documents 01 and 02 have it\n");
+    if (!differing) printf("as document 01 has it\n");
     return differing;
 }

@@ -1,6 +1,6 @@
 //! Answers a sheet, question by question through the C functions, with the lines that `lay` writes for the whole of it: `ask < sheet`.
 //! oracle/compare holds it against the original program.
-use qptr::{Components, Handle, Index, Lookup, MemTypeLayout, Op, Refusal, Step, Table, TypeLayout};
+use qptr::{Components, Handle, Index, MemTypeLayout, Op, Refusal, Step, Table, TypeLayout};
 use std::fmt::Write as _;
 use std::io::{Read as _, Write as _};
 use std::num::NonZeroU32;
@@ -32,13 +32,13 @@ fn layout_line(layout: TypeLayout) -> String {
     };
     match handle {
         Handle::Buffer(memory) => memory_line(form[0], len, &memory),
-        Handle::Opaque => format!("t,{},{len},0,0,0,0,0", form[1]),
+        Handle::Opaque => format!("t,{},{len},0,0,0,0", form[1]),
     }
 }
 
 fn memory_line(form: &str, len: u32, memory: &MemTypeLayout) -> String {
     let (mem, base) = (memory.mem_layout, memory.mem_layout.fixed_base);
-    let mut line = format!("t,{form},{len},{},{},{},{},{}", base.size, memory.data_end, base.align, base.legacy_align, or_zero(mem.dyn_unit_stride));
+    let mut line = format!("t,{form},{len},{},{},{},{}", base.size, base.align, base.legacy_align, or_zero(mem.dyn_unit_stride));
     match &memory.components {
         Components::Scalar => {}
         Components::Elements { stride } => write!(line, ",{stride}").unwrap(),
@@ -71,11 +71,8 @@ fn answer(table: &Table, question: &str) -> Result<String, Refusal> {
     let layout = |i: usize| table.type_layout(n(i)).map(layout_line);
     Ok(match fields[0] {
         "T" => layout(1)?,
-        "E" => if table.equal_types(n(1), n(2))? { "y" } else { "n" }.to_string(),
-        "Q" => match table.find_components(n(1), n(2)..n(3))? {
-            Lookup::Found(components) => components.iter().fold("q".to_string(), |line, found| format!("{line},{found}")),
-            Lookup::End => "q,end".to_string(),
-        },
+        "E" => if layout(1)? == layout(2)? { "y" } else { "n" }.to_string(),
+        "Q" => table.find_components(n(1), n(2)..n(3))?.iter().fold("q".to_string(), |line, found| format!("{line},{found}")),
         "C" => {
             let indices: Vec<Index> = fields[3..].iter().map(|field| index(field)).collect();
             table.lower_chain(op(fields[1]), n(2), &indices)?.into_iter().map(step).fold("c".to_string(), |line, step| line + &step)

@@ -1,7 +1,7 @@
 //! The C functions of libqptr.a over slices, one each: a slice is lent as its address and its length. All unsafe code is here.
 //!
 //! Any content and length of each list is allowed, and a refusal leaves every list as it was.
-use crate::{Lookup, QPtrChainStep, Refusal, END};
+use crate::{QPtrChainStep, Refusal};
 
 mod ffi {
     use crate::QPtrChainStep;
@@ -39,7 +39,6 @@ mod ffi {
             out: *mut u32,
             out_len: usize,
         ) -> i64;
-        pub fn qptr_equal_types(table: *const u32, table_len: usize, first: u32, second: u32) -> i64;
         pub fn qptr_array_length(
             table: *const u32,
             table_len: usize,
@@ -49,17 +48,6 @@ mod ffi {
             out_len: usize,
         ) -> i64;
         pub fn qptr_local_variable(table: *const u32, table_len: usize, ptr: u32, out: *mut u32, out_len: usize) -> i64;
-        pub fn qptr_compare_captures(
-            table: *const u32,
-            table_len: usize,
-            ty: u32,
-            first: *const u8,
-            first_len: usize,
-            second: *const u8,
-            second_len: usize,
-            out: *mut u32,
-            out_len: usize,
-        ) -> i64;
     }
 }
 
@@ -90,26 +78,17 @@ pub fn lower_chain_steps(table: &[u32], op: u32, ptr: u32, indices: &[u8], steps
     answered(unsafe { ffi::qptr_lower_chain_steps(table.as_ptr(), table.len(), op, ptr, at, len, steps.as_mut_ptr(), steps.len()) })
 }
 
-/// The layout of a type, 8 words and the offsets of its fields; how many words.
+/// The layout of a type, 7 words and the offsets of its fields; how many words.
 ///
-/// The 8: form (1 memory, 2 buffer, 3 opaque, 4 and 5 arrays of these), length of a handle array or 0, size, end of the last data byte, alignment,
-/// legacy alignment, runtime stride or 0, stride of an array or 0.
+/// The 7: form (1 memory, 2 buffer, 3 opaque, 4 and 5 arrays of these), length of a handle array or 0, size, alignment, legacy alignment, runtime
+/// stride or 0, stride of an array or 0.
 pub fn type_layout(table: &[u32], ty: u32, out: &mut [u32]) -> Result<usize, Refusal> {
     answered(unsafe { ffi::qptr_type_layout(table.as_ptr(), table.len(), ty, out.as_mut_ptr(), out.len()) })
 }
 
-/// The components of a type that hold the bytes from start to end, rising, and how many; or the very end of an array, and the list as it was.
-pub fn find_components(table: &[u32], ty: u32, start: u32, end: u32, out: &mut [u32]) -> Result<Lookup<usize>, Refusal> {
-    match unsafe { ffi::qptr_find_components(table.as_ptr(), table.len(), ty, start, end, out.as_mut_ptr(), out.len()) } {
-        END => Ok(Lookup::End),
-        count => answered(count).map(Lookup::Found),
-    }
-}
-
-/// Whether two types are equal: their layouts' lines are, they are of the same kind, width and length, with the same Block mark, and their elements or
-/// members are pairwise equal.
-pub fn equal_types(table: &[u32], first: u32, second: u32) -> Result<bool, Refusal> {
-    answered(unsafe { ffi::qptr_equal_types(table.as_ptr(), table.len(), first, second) }).map(|same| same == 1)
+/// The components of a type that hold the bytes from start to end, rising; how many.
+pub fn find_components(table: &[u32], ty: u32, start: u32, end: u32, out: &mut [u32]) -> Result<usize, Refusal> {
+    answered(unsafe { ffi::qptr_find_components(table.as_ptr(), table.len(), ty, start, end, out.as_mut_ptr(), out.len()) })
 }
 
 /// Where a runtime array that ends a block begins, and its stride: 2 words.
@@ -120,13 +99,4 @@ pub fn array_length(table: &[u32], ptr: u32, member: u32, out: &mut [u32]) -> Re
 /// The size, alignment and legacy alignment of a local variable, 3 words; or none where it isn't memory of a fixed size.
 pub fn local_variable(table: &[u32], ptr: u32, out: &mut [u32]) -> Result<usize, Refusal> {
     answered(unsafe { ffi::qptr_local_variable(table.as_ptr(), table.len(), ptr, out.as_mut_ptr(), out.len()) })
-}
-
-/// Two captures of one frame, compared on a type: whether they differ, the least event whose counts differ, how many events the first has, and what holds
-/// each of them, as qptr.h says; how many words.
-pub fn compare_captures(table: &[u32], ty: u32, first: &[u8], second: &[u8], out: &mut [u32]) -> Result<usize, Refusal> {
-    let (first, first_len, second, second_len) = (first.as_ptr(), first.len(), second.as_ptr(), second.len());
-    answered(unsafe {
-        ffi::qptr_compare_captures(table.as_ptr(), table.len(), ty, first, first_len, second, second_len, out.as_mut_ptr(), out.len())
-    })
 }

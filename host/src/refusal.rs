@@ -1,4 +1,4 @@
-//! The refusals of document 01's table and those that document 02 adds, by number and by the trade's word.
+//! The refusals of document 01's table, by number and by the trade's word.
 use std::fmt;
 
 /// Why a call was refused. Whatever was lent to it holds what it held before.
@@ -36,32 +36,22 @@ const WORDS: [&str; 28] = [
     "reversed",
 ];
 
-/// What document 02 adds, of the calls that are there.
-const ADDED: [(u32, &str); 1] = [(36, "bad event")];
-
 impl Refusal {
     /// 24: the result is complete, but longer than the lent list.
     pub const SHORT_LIST: Refusal = Refusal(24);
 
-    /// The refusal that a negative answer of a C function stands for: a number of the table, whatever was lent (`always-told`, docs/PROMISE.md).
+    /// The refusal that a negative answer of a C function stands for.
     pub(crate) fn of(answer: i64) -> Refusal {
-        match answer {
-            -28..=-1 => Refusal(-answer as u32),
-            _ if ADDED.iter().any(|&(n, _)| answer == -i64::from(n)) => Refusal(-answer as u32),
-            _ => unreachable!("{answer} is minus no number of the table"),
-        }
+        Refusal(answer.unsigned_abs() as u32)
     }
 
     pub fn number(self) -> u32 {
         self.0
     }
 
-    /// The trade's word.
+    /// The trade's word; a table that no sheet made may hold other numbers.
     pub fn word(self) -> &'static str {
-        match ADDED.iter().find(|(n, _)| *n == self.0) {
-            Some((_, word)) => word,
-            None => WORDS[self.0 as usize - 1],
-        }
+        self.0.checked_sub(1).and_then(|i| WORDS.get(i as usize)).unwrap_or(&"other")
     }
 }
 

@@ -25,8 +25,6 @@ pub enum Components {
 #[derive(Clone, Debug, PartialEq, Eq, Hash)]
 pub struct MemTypeLayout {
     pub mem_layout: MaybeDynMemLayout,
-    /// The end of the last data byte: behind it lies padding alone.
-    pub data_end: u32,
     pub components: Components,
 }
 
@@ -44,21 +42,19 @@ pub enum TypeLayout {
 }
 
 /// How many words stand before the offsets of the fields.
-pub(crate) const HEAD: usize = 8;
+pub(crate) const HEAD: usize = 7;
 
 impl TypeLayout {
-    /// Of a form (1 memory, 2 buffer, 3 opaque, 4 and 5 arrays of these), a length, size, end of the data, both alignments, runtime stride, stride; then
-    /// offsets.
+    /// Of a form (1 memory, 2 buffer, 3 opaque, 4 and 5 arrays of these), a length, size, both alignments, runtime stride, stride; then offsets.
     pub(crate) fn of(words: &[u32]) -> TypeLayout {
         let (head, offsets) = words.split_at(HEAD);
         let len = NonZeroU32::new(head[1]);
         let memory = || MemTypeLayout {
             mem_layout: MaybeDynMemLayout {
-                fixed_base: MemLayout { size: head[2], align: head[4], legacy_align: head[5] },
-                dyn_unit_stride: NonZeroU32::new(head[6]),
+                fixed_base: MemLayout { size: head[2], align: head[3], legacy_align: head[4] },
+                dyn_unit_stride: NonZeroU32::new(head[5]),
             },
-            data_end: head[3],
-            components: match NonZeroU32::new(head[7]) {
+            components: match NonZeroU32::new(head[6]) {
                 Some(stride) => Components::Elements { stride },
                 None if offsets.is_empty() => Components::Scalar,
                 None => Components::Fields { offsets: offsets.to_vec() },

@@ -16,13 +16,6 @@ pub struct BufferDynLen {
     pub dyn_unit_stride: u32,
 }
 
-/// What a lookup answers: components, or the very end of an array, which is no element.
-#[derive(Clone, Copy, Debug, PartialEq, Eq, Hash)]
-pub enum Lookup<T> {
-    Found(T),
-    End,
-}
-
 impl Table {
     /// Reads a sheet: its types are laid out once, for all questions.
     pub fn read(sheet: &[u8]) -> Result<Table, Refusal> {
@@ -56,18 +49,11 @@ impl Table {
         Ok(TypeLayout::of(&out[..count]))
     }
 
-    /// The components of a type that hold a range of its bytes, rising; or the very end of an array.
-    pub fn find_components(&self, ty: u32, range: Range<u32>) -> Result<Lookup<Vec<u32>>, Refusal> {
+    /// The components of a type that hold a range of its bytes, rising.
+    pub fn find_components(&self, ty: u32, range: Range<u32>) -> Result<Vec<u32>, Refusal> {
         let mut out = [0; MOST_MEMBERS];
-        Ok(match calls::find_components(&self.words, ty, range.start, range.end, &mut out)? {
-            Lookup::Found(count) => Lookup::Found(out[..count].to_vec()),
-            Lookup::End => Lookup::End,
-        })
-    }
-
-    /// Whether two types are equal: same kind, width, length and Block mark, equal parts, and the same layout's line.
-    pub fn equal_types(&self, first: u32, second: u32) -> Result<bool, Refusal> {
-        calls::equal_types(&self.words, first, second)
+        let count = calls::find_components(&self.words, ty, range.start, range.end, &mut out)?;
+        Ok(out[..count].to_vec())
     }
 
     /// The runtime array that a member of a pointer's block is.

@@ -55,45 +55,6 @@ fn chains_over_a_runtime_array_of_the_pointee() {
     }
 }
 
-/// Document 02, b: by the stride that the pointer carries; a handle takes no notice of it, and 0 is 8 behind 9 and 10.
-#[test]
-fn chains_by_a_pointers_stride() {
-    let table = types("F,32\nS,0,2,0,0\nP,7,1,20\nP,7,1,0\nP,7,1,4294967295\nO\nP,7,5,0\nA,5,2,-\nP,7,7,0\nR,0,-\nP,7,9,0\n");
-    for op in [Op::PtrAccessChain, Op::InBoundsPtrAccessChain] {
-        let chain = |ptr: u32, is: &[Index]| table.lower_chain(op, ptr, is);
-        let far = |stride: u32, index: Index| Step::DynOffset { stride, bound: None, index };
-        assert_eq!(chain(2, &[Known(3), Known(1)]), Ok(vec![Step::Offset(64)]));
-        assert_eq!(chain(2, &[Known(u32::MAX)]), Ok(vec![Step::Offset(-20)]));
-        assert_eq!(chain(2, &[Unknown(4), Known(1)]), Ok(vec![far(20, Unknown(4)), Step::Offset(4)]));
-        assert_eq!((number(chain(3, &[Known(3)])), number(chain(3, &[]))), (8, 8));
-        assert_eq!(chain(4, &[Known(0)]), Ok(vec![far(u32::MAX, Known(0))]));
-        assert_eq!(chain(6, &[Known(7)]), Ok(vec![Step::HandleArrayIndex(Known(7))]));
-        assert_eq!((number(chain(8, &[Known(0)])), number(chain(10, &[Known(0)]))), (9, 10));
-    }
-    for op in [Op::AccessChain, Op::InBoundsAccessChain] {
-        assert_eq!(table.lower_chain(op, 2, &[Known(1)]), Ok(vec![Step::Offset(4)]));
-        assert_eq!(table.lower_chain(op, 3, &[]), Ok(vec![]));
-    }
-}
-
-/// A pointer's row is its tag, class, pointee, the stride's kind and value, and 0; one as an older version wrote it, without the kind, reads as a stride
-/// of 0, and what no sheet makes is 1.
-#[test]
-fn pointers_rows() {
-    let table = types("F,32\nP,7,0\nP,7,0,9\n");
-    assert_eq!(table.words()[7 + 6..][..12], [80, 7, 0, 1, 0, 0, 80, 7, 0, 0, 9, 0]);
-    let with = |row: [u32; 6]| {
-        let mut words = table.words().to_vec();
-        words[7 + 6..][..6].copy_from_slice(&row);
-        lowered(&words, 67, 1, &known(&[1]), 99)
-    };
-    assert_eq!(with([80, 7, 0, 0, 0, 0]), Err(8));
-    for row in [[80, 7, 0, 1, 9, 0], [80, 7, 0, 2, 0, 0], [80, 7, 0, 1, 0, 1], [80, 7, 0, 0, 9, 1]] {
-        assert_eq!(with(row), Err(1), "{row:?}");
-    }
-    assert!(with([80, 7, 0, 1, 0, 0]).is_ok() && with([80, 9, 0, 0, 4, 0]).is_ok());
-}
-
 /// 255 indices, the most there can be, give 256 steps: a handle, a buffer, an offset and 253 arrays.
 #[test]
 fn the_longest_chain() {
@@ -185,7 +146,7 @@ fn tables_of_every_length() {
     assert_eq!(lowered(&[table.words(), &[7; 5]].concat(), 65, 5, &known(&[0, 2, 1]), 99), good);
     assert_eq!(lowered(&[], 65, 5, &known(&[0, 2, 1]), 99), Err(1));
     // Type 5, the pointer, is the last that the chain reads of the types; type 4, the block, the last of the layouts.
-    let (pointer, block) = (7 + 6 * 6, LAYOUTS_AT + ROW_WORDS * 5);
+    let (pointer, block) = (7 + 6 * 6, 4615 + 10 * 5);
     for len in 0..table.words().len() {
         let answer = lowered(&table.words()[..len], 65, 5, &known(&[0, 2, 1]), 99);
         if len < pointer {

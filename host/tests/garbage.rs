@@ -1,9 +1,8 @@
-//! Any sheet, any table, any list of indices and any length, through each C function: a full answer or a number of the table, from 1 to 28 or 36, what lies
-//! around each lent list intact, and all of it after a number; no 24 where a chain's list has room for one step more than there are indices.
-//! QPTR_ROUNDS says how many of each; their shares are seen with `--nocapture`.
+//! Any sheet, any table, any list of indices and any length, through each C function: a full answer or a number, what lies around each lent list
+//! intact, and all of it after a number. QPTR_ROUNDS says how many of each; their shares are seen with `--nocapture`.
 mod common;
 use common::*;
-use qptr::{calls, Lookup, QPtrChainStep, Step, Table, INDEX_BYTES, MOST_MEMBERS, MOST_STEPS, STEP_BYTES, TABLE_WORDS};
+use qptr::{calls, QPtrChainStep, Step, Table, MOST_MEMBERS, MOST_STEPS, STEP_BYTES, TABLE_WORDS};
 
 fn rounds() -> usize {
     std::env::var("QPTR_ROUNDS").map_or(20_000, |n| n.parse().expect("QPTR_ROUNDS is a number"))
@@ -15,7 +14,6 @@ struct Shares([usize; 3]);
 
 impl Shares {
     fn count(&mut self, answer: Result<usize, u32>) {
-        assert!(answer.is_ok() || answer.is_err_and(|n| (1..=28).contains(&n) || n == 36), "{answer:?} is no number of the table");
         self.0[match answer {
             Ok(_) => 0,
             Err(24) => 1,
@@ -27,8 +25,7 @@ impl Shares {
         let [answered, short, refused] = self.0;
         println!("{function}: {answered} answered, {short} short lists, {refused} refused");
         let few = rounds() / 100;
-        let lends = function != "qptr_equal_types"; // which takes no list to be filled
-        assert!(answered > few && (short > few) == lends && refused > few, "{function}: {answered} answered, {short} short lists, {refused} refused");
+        assert!(answered > few && short > few && refused > few, "{function}: {answered} answered, {short} short lists, {refused} refused");
     }
 }
 
@@ -115,49 +112,25 @@ fn sheets() -> Vec<Asked> {
     let asked = |sheet: &[u8]| Asked {
         table: Table::read(sheet).unwrap(),
         questions: (std::str::from_utf8(sheet).unwrap().lines())
-            .filter(|line| line.starts_with(['T', 'E', 'Q', 'C', 'L', 'X']))
+            .filter(|line| line.starts_with(['T', 'Q', 'C', 'L', 'X']))
             .map(|line| (line.as_bytes()[0], line.split(',').skip(1).map(field).collect()))
             .collect(),
     };
     SHEETS.iter().map(|(sheet, _)| asked(sheet)).collect()
 }
 
-/// Overwrites a row of layouts: by a refusal, a buffer of itself, zeros; at what it is, what it is made of, its span or its element. Or a row of types: at
-/// the refusal of a struct's D lines or a pointer's stride, at the stride's kind, or by zeros.
-fn damage_row(words: &mut [u32], types: usize, numbers: &mut Numbers) {
-    let (ty, word, small) = (numbers.below(types), numbers.word(), numbers.below(5) as u32);
-    let (layout, row) = (LAYOUTS_AT + ROW_WORDS * ty, 7 + 6 * ty);
-    match numbers.below(11) {
-        0 => words[layout..layout + ROW_WORDS].copy_from_slice(&[0, word, 0, 0, 0, 0, 0, 0, 0, 0, 0]),
-        1 => words[layout..layout + ROW_WORDS].copy_from_slice(&[1, 0, 2, 0, word, 4, 4, 4, 4, ty as u32, 0]),
-        2 => words[layout..layout + ROW_WORDS].fill(0),
-        3 => words[layout] = small,
-        4 => words[layout + 2] = small,
-        5 => words[layout + 8] = word,
-        6 => words[layout + 9] = word,
-        7 => words[layout + 9] = numbers.below(types) as u32,
-        8 => words[row + 4] = word,
-        9 => words[row + 3] = small,
-        _ => words[row..row + 6].fill(0),
-    }
-}
-
 impl Asked {
-    /// Its table with up to three changes: rows overwritten, words of its types, members, offsets and layouts; some of another length, some random.
+    /// Its table with up to three words changed, mostly in the rows of its types, members, offsets and layouts; some of another length, some random.
     fn table(&self, numbers: &mut Numbers) -> Guarded<u32> {
         let types = self.table.types() as usize;
         let mut words = self.table.words().to_vec();
         for _ in 0..numbers.below(4) {
-            if numbers.one_in(2) {
-                damage_row(&mut words, types, numbers);
-                continue;
-            }
-            let (part, size) = [(0, 7), (7, 6 * types), (1543, 16), (3591, 16), (LAYOUTS_AT, ROW_WORDS * types), (0, TABLE_WORDS)][numbers.below(6)];
+            let (part, size) = [(0, 7), (7, 6 * types), (1543, 16), (3591, 16), (4615, 10 * types), (0, TABLE_WORDS)][numbers.below(6)];
             words[part + numbers.below(size)] = numbers.word();
         }
         match numbers.below(16) {
             0 => words.truncate(numbers.below(TABLE_WORDS)),
-            1 => words.truncate(LAYOUTS_AT + numbers.below(ROW_WORDS * types)),
+            1 => words.truncate(4615 + numbers.below(10 * types)),
             2 => words.extend([numbers.word(), numbers.word()]),
             3 => {
                 let len = numbers.below(2 * TABLE_WORDS);
@@ -223,34 +196,17 @@ fn chain(numbers: &mut Numbers, asked: &Asked) -> (Guarded<u32>, u32, u32, Guard
     (table, op, ptr, indices)
 }
 
-/// How many steps a list has room for: the most that there are, one more than the indices, or few.
-fn steps_room(numbers: &mut Numbers, indices: &Guarded<u8>) -> usize {
-    match numbers.below(3) {
-        0 => numbers.below(3),
-        1 => indices.list().len() / INDEX_BYTES + 1,
-        _ => MOST_STEPS,
-    }
-}
-
-/// No 24 where there is room for one step more than there are indices.
-fn not_short(room: usize, indices: &Guarded<u8>, answer: Result<usize, u32>) {
-    let indices = indices.list().len() / INDEX_BYTES;
-    assert!(room <= indices || answer != Err(24), "24 for {indices} indices and room for {room} steps");
-}
-
 #[test]
 fn lower_chain() {
     over_tables(b'C', "qptr_lower_chain", |numbers, asked| {
         let (table, op, ptr, indices) = chain(numbers, asked);
-        let room = STEP_BYTES * steps_room(numbers, &indices) + numbers.below(STEP_BYTES);
+        let room = room(numbers, STEP_BYTES * MOST_STEPS, 60);
         let answer = full(room, BYTES, &|steps| {
             calls::lower_chain(table.list(), op, ptr, indices.list(), steps).map(|n| STEP_BYTES * n)
         });
         table.kept(0);
         indices.kept(0);
-        let steps = answer.map(|steps| steps.len());
-        not_short(room / STEP_BYTES, &indices, steps);
-        steps
+        answer.map(|steps| steps.len())
     });
 }
 
@@ -260,7 +216,7 @@ fn lower_chain_steps() {
     let fills = WORDS.map(|w| QPtrChainStep { op: w, bytes: w as i32, stride: w, length: w, index_kind: w, index: w });
     over_tables(b'C', "qptr_lower_chain_steps", |numbers, asked| {
         let (table, op, ptr, indices) = chain(numbers, asked);
-        let room = steps_room(numbers, &indices);
+        let room = room(numbers, MOST_STEPS, 3);
         let answer = full(room, fills, &|steps| calls::lower_chain_steps(table.list(), op, ptr, indices.list(), steps));
         table.kept(0);
         indices.kept(0);
@@ -268,9 +224,7 @@ fn lower_chain_steps() {
         let same = calls::lower_chain(table.list(), op, ptr, indices.list(), bytes.as_flattened_mut());
         let steps: Result<Vec<Step>, u32> = same.map(|n| bytes[..n].iter().map(Step::from_bytes).collect()).map_err(|e| e.number());
         assert_eq!(answer.clone().map(|records| records.into_iter().map(Step::from).collect()), steps);
-        let records = answer.map(|records| records.len());
-        not_short(room, &indices, records);
-        records
+        answer.map(|records| records.len())
     });
 }
 
@@ -279,28 +233,9 @@ fn find_components() {
     over_tables(b'Q', "qptr_find_components", |numbers, asked| {
         let (table, question) = (asked.table(numbers), asked.question(numbers, b'Q', 3));
         let room = room(numbers, 2 * MOST_MEMBERS, 2);
-        let answer = looked(table.list(), question[0].1, question[1].1, question[2].1, room);
+        let answer = full(room, WORDS, &|out| calls::find_components(table.list(), question[0].1, question[1].1, question[2].1, out));
         table.kept(0);
-        answer.map(|found| if let Lookup::Found(components) = found { components.len() } else { 0 })
-    });
-}
-
-#[test]
-fn equal_types() {
-    over_tables(b'E', "qptr_equal_types", |numbers, asked| {
-        let (table, question) = (asked.table(numbers), asked.question(numbers, b'E', 2));
-        let (first, second) = (question[0].1, question[1].1);
-        let answer = calls::equal_types(table.list(), first, second).map_err(|refusal| refusal.number());
-        table.kept(0);
-        if first == second {
-            assert_ne!(answer, Ok(false), "type {first} is not equal to itself");
-        }
-        let back = calls::equal_types(table.list(), second, first).map_err(|refusal| refusal.number());
-        assert_eq!(answer.is_ok(), back.is_ok(), "one way types {first} and {second} are refused");
-        if answer.is_ok() {
-            assert_eq!(answer, back, "types {first} and {second} are equal one way");
-        }
-        answer.map(usize::from)
+        answer.map(|found| found.len())
     });
 }
 
@@ -333,64 +268,6 @@ fn array_length() {
         let room = room(numbers, 9, 3);
         let answer = full(room, WORDS, &|out| calls::array_length(table.list(), question[0].1, question[1].1, out));
         table.kept(0);
-        answer.map(|words| words.len())
-    });
-}
-
-// ---- two captures
-
-/// A log: lines in form, mostly, with up to two bytes changed, or random bytes; some are long.
-fn log(numbers: &mut Numbers) -> Vec<u8> {
-    if numbers.one_in(32) {
-        let len = numbers.below(100);
-        return (0..len).map(|_| LETTERS[numbers.below(16)]).collect();
-    }
-    let count = if numbers.one_in(200) { 1020 + numbers.below(8) } else { numbers.below(9) };
-    let mut bytes = vec![];
-    for _ in 0..count {
-        let (lane, start) = (numbers.below(3), numbers.below(64));
-        bytes.extend(format!("{lane},{start},{}\n", start + numbers.below(17)).into_bytes());
-    }
-    if numbers.one_in(4) {
-        for _ in 0..=numbers.below(2) {
-            let at = numbers.below(bytes.len() + 1);
-            match numbers.below(3) {
-                0 => bytes.truncate(at),
-                1 => bytes.insert(at, numbers.next() as u8),
-                _ => bytes.iter_mut().skip(at).take(1).for_each(|b| *b = LETTERS[numbers.below(16)]),
-            }
-        }
-    }
-    bytes
-}
-
-/// What is found for each event is what a lookup of it finds, over any table.
-#[test]
-fn compare_captures() {
-    over_tables(b'Q', "qptr_compare_captures", |numbers, asked| {
-        let (table, question) = (asked.table(numbers), asked.question(numbers, b'Q', 3));
-        let (first, second) = (Guarded::of(&log(numbers), BYTES[0]), Guarded::of(&log(numbers), BYTES[0]));
-        let (ty, room) = (question[0].1, room(numbers, 2 * MOST_MEMBERS, 30));
-        let answer = full(room, WORDS, &|out| calls::compare_captures(table.list(), ty, first.list(), second.list(), out));
-        table.kept(0);
-        first.kept(0);
-        second.kept(0);
-        if let Ok(words) = &answer {
-            let mut rest = &words[5..];
-            let lines = std::str::from_utf8(first.list()).unwrap().lines();
-            assert_eq!(words[4] as usize, lines.clone().count());
-            for line in lines {
-                let event: Vec<u32> = line.split(',').map(|field| field.parse().unwrap()).collect();
-                let mut found = [0; 2 * MOST_MEMBERS];
-                let one = match calls::find_components(table.list(), ty, event[1], event[2], &mut found).unwrap() {
-                    Lookup::End => vec![u32::MAX],
-                    Lookup::Found(count) => [&[count as u32], &found[..count]].concat(),
-                };
-                assert_eq!(rest[..one.len()], one);
-                rest = &rest[one.len()..];
-            }
-            assert!(rest.is_empty());
-        }
         answer.map(|words| words.len())
     });
 }

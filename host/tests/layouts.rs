@@ -8,9 +8,9 @@ fn layout(table: &[u32], ty: u32, room: usize) -> Result<Vec<u32>, u32> {
     full(room, WORDS, &|out| calls::type_layout(table, ty, out))
 }
 
-fn memory(size: u32, data_end: u32, align: u32, legacy_align: u32, unit: u32, components: Components) -> MemTypeLayout {
+fn memory(size: u32, align: u32, legacy_align: u32, unit: u32, components: Components) -> MemTypeLayout {
     let fixed_base = MemLayout { align, legacy_align, size };
-    MemTypeLayout { mem_layout: MaybeDynMemLayout { fixed_base, dyn_unit_stride: NonZeroU32::new(unit) }, data_end, components }
+    MemTypeLayout { mem_layout: MaybeDynMemLayout { fixed_base, dyn_unit_stride: NonZeroU32::new(unit) }, components }
 }
 
 fn elements(stride: u32) -> Components {
@@ -26,19 +26,19 @@ fn fields(offsets: &[u32]) -> Components {
 fn layouts_of_memory_and_a_buffer() {
     let table = Table::read(LIGHTS).unwrap();
     let laid = |ty| table.type_layout(ty).unwrap();
-    assert_eq!(laid(1), TypeLayout::Concrete(memory(4, 4, 4, 4, 0, Components::Scalar)));
-    assert_eq!(laid(2), TypeLayout::Concrete(memory(12, 12, 4, 16, 0, elements(4))));
-    assert_eq!(laid(3), TypeLayout::Concrete(memory(32, 32, 4, 16, 0, fields(&[0, 12, 16, 28]))));
-    assert_eq!(laid(4), TypeLayout::Concrete(memory(0, 0, 4, 16, 32, elements(32))));
-    assert_eq!(laid(5), TypeLayout::Handle(Handle::Buffer(memory(16, 4, 4, 16, 32, fields(&[0, 16])))));
-    assert_eq!(layout(table.words(), 5, 99), Ok(vec![2, 0, 16, 4, 4, 16, 32, 0, 0, 16]));
-    assert_eq!(layout(table.words(), 4, 99), Ok(vec![1, 0, 0, 0, 4, 16, 32, 32]));
+    assert_eq!(laid(1), TypeLayout::Concrete(memory(4, 4, 4, 0, Components::Scalar)));
+    assert_eq!(laid(2), TypeLayout::Concrete(memory(12, 4, 16, 0, elements(4))));
+    assert_eq!(laid(3), TypeLayout::Concrete(memory(32, 4, 16, 0, fields(&[0, 12, 16, 28]))));
+    assert_eq!(laid(4), TypeLayout::Concrete(memory(0, 4, 16, 32, elements(32))));
+    assert_eq!(laid(5), TypeLayout::Handle(Handle::Buffer(memory(16, 4, 16, 32, fields(&[0, 16])))));
+    assert_eq!(layout(table.words(), 5, 99), Ok(vec![2, 0, 16, 4, 16, 32, 0, 0, 16]));
+    assert_eq!(layout(table.words(), 4, 99), Ok(vec![1, 0, 0, 4, 16, 32, 32]));
 }
 
 #[test]
 fn layouts_of_handles() {
     let table = types("O\nF,32\nS,1,1,1\nA,0,3,-\nR,0,-\nA,2,5,-\nR,2,-\nS,0,0\n");
-    let buffer = || Handle::Buffer(memory(4, 4, 4, 4, 0, fields(&[0])));
+    let buffer = || Handle::Buffer(memory(4, 4, 4, 0, fields(&[0])));
     let laid = |ty| table.type_layout(ty).unwrap();
     assert_eq!(laid(0), TypeLayout::Handle(Handle::Opaque));
     assert_eq!(laid(2), TypeLayout::Handle(buffer()));
@@ -46,62 +46,30 @@ fn layouts_of_handles() {
     assert_eq!(laid(4), TypeLayout::HandleArray(Handle::Opaque, None));
     assert_eq!(laid(5), TypeLayout::HandleArray(buffer(), NonZeroU32::new(5)));
     assert_eq!(laid(6), TypeLayout::HandleArray(buffer(), None));
-    assert_eq!(laid(7), TypeLayout::Concrete(memory(0, 0, 1, 1, 0, Components::Scalar)));
-    assert_eq!(layout(table.words(), 3, 8), Ok(vec![5, 3, 0, 0, 0, 0, 0, 0]));
-    assert_eq!(layout(table.words(), 5, 9), Ok(vec![4, 5, 4, 4, 4, 4, 0, 0, 0]));
+    assert_eq!(laid(7), TypeLayout::Concrete(memory(0, 1, 1, 0, Components::Scalar)));
+    assert_eq!(layout(table.words(), 3, 7), Ok(vec![5, 3, 0, 0, 0, 0, 0]));
+    assert_eq!(layout(table.words(), 5, 8), Ok(vec![4, 5, 4, 4, 4, 0, 0, 0]));
 }
 
 #[test]
 fn as_many_fields_as_there_can_be() {
     let table = types(&format!("F,32\nS,0,{MOST_MEMBERS}{}\n", ",0".repeat(MOST_MEMBERS)));
     let offsets: Vec<u32> = (0..MOST_MEMBERS as u32).map(|i| 4 * i).collect();
-    assert_eq!(table.type_layout(1), Ok(TypeLayout::Concrete(memory(4096, 4096, 4, 4, 0, fields(&offsets)))));
-    assert_eq!(layout(table.words(), 1, 8 + MOST_MEMBERS).map(|words| words.len()), Ok(8 + MOST_MEMBERS));
-}
-
-/// Where the data ends: behind the last member lies padding, an element's own padding counts between elements; a far empty member is left out, and a
-/// stride below its element's size lets data lie past the size.
-#[test]
-fn where_the_data_ends() {
-    let end = |t: &Table, ty| match t.type_layout(ty).unwrap() {
-        TypeLayout::Concrete(m) | TypeLayout::Handle(Handle::Buffer(m)) | TypeLayout::HandleArray(Handle::Buffer(m), _) => (m.mem_layout.fixed_base.size, m.data_end),
-        _ => (0, 0),
-    };
-    let table = types("I,8\nF,32\nS,0,2,1,0\nA,2,3,-\nS,0,0\nS,0,2,0,4\nD,0,35,0\nD,1,35,100\nA,2,3,4\nS,1,1,2\nA,7,2,-\nO\n");
-    assert_eq!(end(&table, 2), (8, 5));
-    assert_eq!(end(&table, 3), (24, 21));
-    assert_eq!(end(&table, 4), (0, 0));
-    assert_eq!(end(&table, 5), (100, 1));
-    assert_eq!(end(&table, 6), (12, 13));
-    assert_eq!(end(&table, 7), (8, 5));
-    assert_eq!(end(&table, 8), (8, 5));
-    assert_eq!(end(&table, 9), (0, 0));
-}
-
-/// The largest sum that fits, and one more: 16, and so for what is built of it.
-#[test]
-fn the_end_overflows() {
-    let table = |o: u32| types(&format!("I,8\nS,0,4,0,0,0,0\nA,1,2,1\nS,0,1,2\nD,0,35,{o}\nA,3,1,1\nP,7,3\n"));
-    let fits = table(u32::MAX - 5);
-    assert_eq!(layout(fits.words(), 3, 99).map(|words| words[2..4].to_vec()), Ok(vec![u32::MAX - 3, u32::MAX]));
-    let over = table(u32::MAX - 4);
-    for ty in [3, 4] {
-        assert_eq!(layout(over.words(), ty, 99), Err(16));
-    }
-    assert_eq!(number(over.local_variable(5)), 16);
+    assert_eq!(table.type_layout(1), Ok(TypeLayout::Concrete(memory(4096, 4, 4, 0, fields(&offsets)))));
+    assert_eq!(layout(table.words(), 1, 7 + MOST_MEMBERS).map(|words| words.len()), Ok(7 + MOST_MEMBERS));
 }
 
 #[test]
 fn layouts_do_not_fit() {
     let table = Table::read(LIGHTS).unwrap();
-    for room in 0..8 {
+    for room in 0..7 {
         assert_eq!(layout(table.words(), 1, room), Err(24));
     }
-    assert_eq!(layout(table.words(), 1, 8).map(|words| words.len()), Ok(8));
-    for room in 0..12 {
+    assert_eq!(layout(table.words(), 1, 7).map(|words| words.len()), Ok(7));
+    for room in 0..11 {
         assert_eq!(layout(table.words(), 3, room), Err(24));
     }
-    assert_eq!(layout(table.words(), 3, 12).map(|words| words.len()), Ok(12));
+    assert_eq!(layout(table.words(), 3, 11).map(|words| words.len()), Ok(11));
 }
 
 #[test]
@@ -118,10 +86,10 @@ fn layouts_are_refused() {
 fn tables_of_every_length() {
     let table = Table::read(LIGHTS).unwrap();
     let good = layout(table.words(), 1, 9);
-    assert_eq!(good.as_ref().map(|words| words.len()), Ok(8));
+    assert_eq!(good.as_ref().map(|words| words.len()), Ok(7));
     assert_eq!(layout(&[table.words(), &[7; 5]].concat(), 1, 9), good);
     // The float is type 1.
-    let end = LAYOUTS_AT + ROW_WORDS * 2;
+    let end = 4615 + 10 * 2;
     for len in 0..table.words().len() {
         assert_eq!(layout(&table.words()[..len], 1, 9), if len < end { Err(1) } else { good.clone() }, "{len} words");
     }

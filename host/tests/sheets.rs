@@ -43,7 +43,7 @@ fn long_answers_are_whole() {
     let out = answer_sheet(sheet.as_bytes());
     let lines: Vec<&[u8]> = out.split_inclusive(|&b| b == b'\n').collect();
     assert_eq!(lines.len(), 500);
-    assert!(lines[0].starts_with(b"t,c,0,4000,4000,4,4,0,0,4,8,") && lines[0].ends_with(b",3992,3996\n"));
+    assert!(lines[0].starts_with(b"t,c,0,4000,4,4,0,0,4,8,") && lines[0].ends_with(b",3992,3996\n"));
     assert!(lines.iter().all(|line| line == &lines[0]));
 }
 

@@ -5,8 +5,8 @@ use mathlib.Core.Option.{Option, none, some}
 use native.Mathlib.Decide.{dec_lt}
 use native.Mathlib.Omega.{arith}
 use lib.ListN.{get_or, get_elem?}
-use Rattle.base_arith.specs.Refusals.{Result, ok, refused, misread}
-use Rattle.base_arith.proofs.Results.{never, value_is}
+use Rattle.arith.specs.Refusals.{Result, ok, refused, misread}
+use Rattle.arith.proofs.Results.{never, value_is}
 use Rattle.spirv.specs.Decl.{Decl, filled}
 use Rattle.spirv.proofs.Filled.{MadeAt, filled_at, filled_missing}
 use Rattle.shapes.specs.Shapes.{TypeLayout}

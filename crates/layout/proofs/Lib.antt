@@ -7,5 +7,3 @@ pub mod Powers
 pub mod Refusals
 pub mod Lookup
 pub mod Examples
-pub mod DataEnd
-pub mod OnePass

@@ -1,6 +1,6 @@
 -- Lookup finds just the parts that hold a range, in rising order. Assumes nothing.
 use Prim.Native.Nat.{ℕ, zero, suc, ◌+◌, ◌*◌, ◌/◌, ◌%◌, ◌<◌, ◌≤◌}
-use native.Mathlib.Nat.{add-mul, mul_comm, div-mul-le_self, lt-div-mul-add, div-eq_of_lt-le}
+use native.Mathlib.Nat.{add-mul, div-mul-le_self, lt-div-mul-add, div-eq_of_lt-le}
 use mathlib.Core.Path.{◌≡◌, refl, sym, ap, ◌∙◌, subst}
 use mathlib.Core.Bool.{Bool, true, false, cond, ◌&&◌, ◌||◌, not, false≢true}
 use mathlib.Core.List.{List, [], ◌∷◌}
@@ -9,16 +9,16 @@ use mathlib.Core.Option.{Option, none, some}
 use native.Mathlib.Omega.{arith}
 use lib.Dec.{eqb, leb}
 use lib.ListN.{length, get_elem?}
-use borrow.Author.Tests.{eqb-true, eqb-false, eq-eqb, ne_eqb, leb-true, leb-false, le-leb, ltb-false}
-use Rattle.base_arith.specs.Refusals.{Result, ok, refused}
-use Rattle.base_arith.specs.Numbers.{max_u32}
-use Rattle.base_arith.proofs.Results.{never, value_is, went, passed, not_met, first_true, second_true, no_some, some_is}
+use borrow.Author.Tests.{eqb-true, eqb-false, eq-eqb, ne_eqb, leb-true, leb-false, le-leb}
+use Rattle.arith.specs.Refusals.{Result, ok, refused}
+use Rattle.arith.specs.Numbers.{max_u32}
+use Rattle.arith.proofs.Results.{never, value_is, went, passed, first_true, second_true, no_some, some_is}
 use Rattle.shapes.specs.Shapes.{Components, Scalar, Elements, Fields, MemTypeLayout, TypeLayout, Handle, HandleArray, Concrete, size_of, dyn_of, runtime_sized}
 use Rattle.sheet.specs.Sheet.{Sheet}
 use Rattle.layout.specs.Arrays.{Answer}
 use Rattle.layout.specs.Layouts.{answer_in}
-use Rattle.layout.specs.Lookup.{Found, Holding, AtEnd, size_at_index, element_or_end, element_holding, field_holds, memory_passes, fields_holding, size_of_part, components_containing, in_memory_only, lookup_by}
-use Rattle.layout.specs.Statements.{PartsOf, Has, RisingFrom, FieldHolding, ElementHolding, VeryEnd, FoundElement, FoundIn, Lookup}
+use Rattle.layout.specs.Lookup.{size_at_index, element_holding, field_holds, memory_passes, fields_holding, size_of_part, components_containing, in_memory_only, lookup_by}
+use Rattle.layout.specs.Statements.{PartsOf, Has, RisingFrom, FieldHolding, ElementHolding, FoundIn, Lookup}
 use Rattle.layout.proofs.Parts.{parts}
 
 -- ---- one field
@@ -148,7 +148,7 @@ module _ (s : Sheet) (start end : ℕ) where
         );
       }
 
-  fields_found : (os ts : List ℕ) → FoundIn s start end (Holding (fields_holding (answer_in s) os ts 0 start end)) (Fields os ts)
+  fields_found : (os ts : List ℕ) → FoundIn s start end (fields_holding (answer_in s) os ts 0 start end) (Fields os ts)
   fields_found os ts =
       let f = found_fields os ts 0 in
       (f.rising, λ n. (λ h. here n ((f.just n).0 h), λ g. (f.just n).1 record { k = n; is = omega arith; holding = g }))
@@ -158,133 +158,69 @@ module _ (s : Sheet) (start end : ℕ) where
 
 -- ---- elements
 
-module _ (stride len size start end : ℕ) (some_stride : 1 ≤ stride) (ordered : start ≤ end) (all_fit : stride * len ≤ max_u32) where
+module _ (stride len size start end : ℕ) (some_stride : 1 ≤ stride) where
   abbrev index : ℕ
   index = start / stride
 
   abbrev element_end : ℕ → ℕ
   element_end n = n * stride + size_at_index n len size
 
-  abbrev holds_it : ℕ → Bool
-  holds_it n = (eqb len 0 || leb n len) && (leb end (element_end n) && leb (element_end n) max_u32)
-
-  -- an element of the array has its size
-  sized : (n : ℕ) → (1 ≤ len → n < len) → size_at_index n len size ≡ size
-  unfolding size_at_index
-  sized n h = by (eqb len 0) refl
-    where
-      by : (b : Bool) → eqb len 0 ≡ b → cond b size (cond (eqb n len) 0 size) ≡ size
-      by true e = refl
-      by false e = let z = eqb-false len 0 e in let l = h (omega arith) in rw (ne_eqb n len (omega arith))
-
-  -- behind the last there is none
-  no_size : 1 ≤ len → size_at_index len len size ≡ 0
-  unfolding size_at_index
-  no_size l = rw (ne_eqb len 0 (omega arith), eq-eqb len len refl)
-
-  within : (n : ℕ) → holds_it n ≡ true → 1 ≤ len → n ≤ len
-  within n h l = by (eqb len 0) refl (first_true _ _ h)
-    where
-      by : (b : Bool) → eqb len 0 ≡ b → b || leb n len ≡ true → n ≤ len
-      by true e k = absurd (omega (arith, eqb-true len 0 e))
-      by false e k = leb-true n len k
-
-  ends_behind : (n : ℕ) → holds_it n ≡ true → end ≤ element_end n
-  ends_behind n h = leb-true end (element_end n) (first_true _ _ (second_true (eqb len 0 || leb n len) _ h))
-
-  end_fits : (n : ℕ) → holds_it n ≡ true → element_end n ≤ max_u32
-  end_fits n h = leb-true (element_end n) max_u32 (second_true (leb end (element_end n)) _ (second_true (eqb len 0 || leb n len) _ h))
-
-  -- the index that holds the range is an element of the array, unless it is the length
-  found_element : (n : ℕ) → holds_it index ≡ true → (1 ≤ len → index < len) → index ≡ n → ElementHolding stride len size start end n
-  found_element n h in_length e = subst (ElementHolding stride len size start end) e record {
+  found_element : (n : ℕ) → (eqb len 0 || leb index len) && (leb end (element_end index) && leb (element_end index) max_u32) ≡ true → index ≡ n → ElementHolding stride len size start end n
+  found_element n h e = subst (ElementHolding stride len size start end) e record {
     begins = div-mul-le_self start stride;
     next = lt-div-mul-add some_stride;
-    in_length = in_length;
-    ends = omega (arith, ends_behind index h, sized index in_length);
-    fits = omega (arith, end_fits index h, sized index in_length);
+    in_length = λ l. by l (eqb len 0) refl (first_true _ _ h);
+    ends = leb-true end (element_end index) (first_true _ _ g);
+    fits = leb-true (element_end index) max_u32 (second_true (leb end (element_end index)) _ g);
   }
-
-  -- a number whose element would hold the range is the index
-  is_index : (n : ℕ) → n * stride ≤ start → start < n * stride + stride → index ≡ n
-  is_index n a b = div-eq_of_lt-le stride a (omega (arith, add-mul n 1 stride))
-
-  test_holds : (n : ℕ) → (1 ≤ len → n ≤ len) → end ≤ element_end n → element_end n ≤ max_u32 → holds_it n ≡ true
-  test_holds n a b c = rw (le-leb end (element_end n) b, le-leb (element_end n) max_u32 c) (by (eqb len 0) refl)
     where
-      by : (t : Bool) → eqb len 0 ≡ t → (t || leb n len) && true ≡ true
-      by true e = refl
-      by false e = let z = eqb-false len 0 e in rw (le-leb n len (a (omega arith)))
+      g : leb end (element_end index) && leb (element_end index) max_u32 ≡ true
+      g = second_true (eqb len 0 || leb index len) _ h
 
-  is_found : (n : ℕ) → ElementHolding stride len size start end n → (index ≡ n) × (holds_it index ≡ true)
+      by : 1 ≤ len → (b : Bool) → eqb len 0 ≡ b → b || leb index len ≡ true → index ≤ len
+      by l true e k = absurd (omega (arith, eqb-true len 0 e))
+      by l false e k = leb-true index len k
+
+  is_found : (n : ℕ) → ElementHolding stride len size start end n → (index ≡ n) × ((eqb len 0 || leb index len) && (leb end (element_end index) && leb (element_end index) max_u32) ≡ true)
   is_found n f =
-      let e = is_index n f.begins f.next in
-      let z = sized n f.in_length in
-      (e, rw e (test_holds n (λ l. omega (arith, f.in_length l)) (omega (arith, f.ends)) (omega (arith, f.fits))))
-
-  -- at the very end the index is the length, and it holds the range
-  end_is_found : VeryEnd stride len start end → (index ≡ len) × (holds_it index ≡ true)
-  end_is_found v =
-      let c = mul_comm stride len in
-      let e = is_index len (omega (arith, v.starts)) (omega (arith, v.starts)) in
-      let z = no_size v.some_length in
-      (e, rw e (test_holds len (λ l. omega arith) (omega (arith, v.ends)) (omega arith)))
-
-  elements_found : FoundElement stride len size start end (element_holding stride len size start end)
-  unfolding element_holding element_or_end
-  elements_found = by (holds_it index) refl
+      let e : index ≡ n = div-eq_of_lt-le stride f.begins (omega (arith, add-mul n 1 stride, f.next)) in
+      (e, rw e (rw (le-leb end (element_end n) f.ends, le-leb (element_end n) max_u32 f.fits) (by (eqb len 0) refl)))
     where
-      single : holds_it index ≡ true → (1 ≤ len → index < len) → FoundElement stride len size start end (Holding (index ∷ []))
-      single e l = (
-        λ v. omega (arith, l v.some_length, (end_is_found v).0),
-        omega arith,
-        λ n. (λ h. ⊎_elim (λ g. found_element n e l g) (λ g. absurd g) h, λ f. inl (is_found n f).0),
-      )
+      by : (b : Bool) → eqb len 0 ≡ b → (b || leb n len) && true ≡ true
+      by true e = refl
+      by false e = let z = eqb-false len 0 e in rw (le-leb n len (f.in_length (omega arith)))
 
-      by_length : holds_it index ≡ true → (a b : Bool) → eqb len 0 ≡ a → eqb index len ≡ b
-          → FoundElement stride len size start end (cond a (Holding (index ∷ [])) (cond b AtEnd (Holding (index ∷ []))))
-      by_length h true b e g = single h (λ l. absurd (omega (arith, eqb-true len 0 e)))
-      by_length h false true e g =
-          let z = eqb-false len 0 e in
-          let i = eqb-true index len g in
-          let far : end ≤ len * stride + size_at_index len len size = rw i at (ends_behind index h) in
-          let near : len * stride ≤ start = rw i at (div-mul-le_self start stride) in
-          let n = no_size (omega arith) in
-          let c = mul_comm stride len in
-          record { some_length = omega arith; starts = omega arith; ends = omega arith }
-      by_length h false false e g = single h (λ l. let z = eqb-false index len g in omega (arith, within index h l))
-
-      by : (b : Bool) → holds_it index ≡ b → FoundElement stride len size start end (cond b (cond (eqb len 0) (Holding (index ∷ [])) (cond (eqb index len) AtEnd (Holding (index ∷ [])))) (Holding []))
-      by true e = by_length e (eqb len 0) (eqb index len) refl refl
-      by false e = (
-        λ v. false≢true (sym e ∙ (end_is_found v).1),
-        omega arith,
-        λ n. (λ h. absurd h, λ f. absurd (false≢true (sym e ∙ (is_found n f).1))),
-      )
+  elements_found : (length (element_holding stride len size start end) ≤ 1) × ((n : ℕ) → Has (element_holding stride len size start end) n ↔ ElementHolding stride len size start end n)
+  unfolding element_holding
+  elements_found = by ((eqb len 0 || leb index len) && (leb end (element_end index) && leb (element_end index) max_u32)) refl
+    where
+      by : (b : Bool) → (eqb len 0 || leb index len) && (leb end (element_end index) && leb (element_end index) max_u32) ≡ b
+          → (length (cond b (index ∷ []) []) ≤ 1) × ((n : ℕ) → Has (cond b (index ∷ []) []) n ↔ ElementHolding stride len size start end n)
+      by true e = (omega arith, λ n. (λ h. ⊎_elim (λ g. found_element n e g) (λ g. absurd g) h, λ f. inl (is_found n f).0))
+      by false e = (omega arith, λ n. (λ h. absurd h, λ f. absurd (false≢true (sym e ∙ (is_found n f).1))))
 
 -- ---- the question
 
-module _ (s : Sheet) (t start end : ℕ) (ordered : start ≤ end) where
+module _ (s : Sheet) (t start end : ℕ) where
   found_in : (m : MemTypeLayout) (c : Components) → m.components ≡ c → PartsOf s m c → FoundIn s start end (components_containing (answer_in s) c start end) c
   unfolding components_containing size_of_part
   found_in m Scalar e p = refl
   found_in m (Elements stride elem len) e p =
-      λ k h. rw h (elements_found stride len (size_of k) start end p.some_stride ordered (omega (arith, p.size, p.size_fits)))
+      λ k h. rw h (elements_found stride len (size_of k) start end p.some_stride)
   found_in m (Fields os ts) e p = fields_found s start end os ts
 
 pub lookup_found : Lookup
 unfolding lookup_by in_memory_only
 lookup_found s t start end found h =
-    let ordered = ltb-false end start (not_met _ _ _ (passed _ _ h)) in
     let l = went _ _ (passed _ _ (passed _ _ h)) in
     let c = went _ _ l.rest in
-    by ordered l.value l.here c.value c.here (value_is c.rest)
+    by l.value l.here c.value c.here (value_is c.rest)
   where
-    by : start ≤ end → (l : TypeLayout) → answer_in s t ≡ ok l → (c : Components) → in_memory_only l ≡ ok c → components_containing (answer_in s) c start end ≡ found
+    by : (l : TypeLayout) → answer_in s t ≡ ok l → (c : Components) → in_memory_only l ≡ ok c → components_containing (answer_in s) c start end ≡ found
         → (m : MemTypeLayout) × (answer_in s t ≡ ok (Concrete m)) × FoundIn s start end found m.components
-    by o (Handle k) a c i e = absurd (never i)
-    by o (HandleArray k n) a c i e = absurd (never i)
-    by o (Concrete m) a c i e =
+    by (Handle k) a c i e = absurd (never i)
+    by (HandleArray k n) a c i e = absurd (never i)
+    by (Concrete m) a c i e =
         let p = parts s (Concrete m) m (t, inl a) refl in
         let same : components_containing (answer_in s) m.components start end ≡ found = ap (λ (x : Components). components_containing (answer_in s) x start end) (value_is i) ∙ e in
-        (m, a, subst (λ (f : Found). FoundIn s start end f m.components) same (found_in s t start end o m m.components refl p))
+        (m, a, subst (λ (f : List ℕ). FoundIn s start end f m.components) same (found_in s t start end m m.components refl p))

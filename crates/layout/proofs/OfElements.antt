@@ -5,12 +5,12 @@ use mathlib.Core.Bool.{Bool, true, false, not}
 use native.Mathlib.Omega.{arith}
 use lib.Dec.{eqb}
 use borrow.Author.Tests.{eqb-true, eqb-false, not-false}
-use Rattle.base_arith.specs.Refusals.{Result, ok, refused}
-use Rattle.base_arith.specs.Numbers.{max_u32}
-use Rattle.base_arith.proofs.Results.{never, value_is, went, passed, not_met, fit_is}
+use Rattle.arith.specs.Refusals.{Result, ok, refused}
+use Rattle.arith.specs.Numbers.{max_u32}
+use Rattle.arith.proofs.Results.{never, value_is, went, passed, not_met, fit_is}
 use Rattle.shapes.specs.declared.LayoutConfig.{LayoutConfig}
-use Rattle.shapes.specs.Shapes.{Elements, MemTypeLayout, TypeLayout, Handle, HandleArray, Concrete, size_of, end_of, align_of, legacy_of, dyn_of, runtime_sized}
-use Rattle.layout.specs.Arrays.{Answer, ArrayParams, length_or_zero, has_zero_length, stride_without, stride_of, elements_end, by_element, array_layout}
+use Rattle.shapes.specs.Shapes.{Elements, MemTypeLayout, TypeLayout, Handle, HandleArray, Concrete, size_of, align_of, legacy_of, dyn_of, runtime_sized}
+use Rattle.layout.specs.Arrays.{Answer, ArrayParams, length_or_zero, has_zero_length, stride_without, stride_of, by_element, array_layout}
 
 -- no runtime-sized part
 pub fixed_size : (m : MemTypeLayout) → runtime_sized m ≡ false → dyn_of m ≡ 0
@@ -19,29 +19,28 @@ fixed_size m h = eqb-true (dyn_of m) 0 (not-false (eqb (dyn_of m) 0) h)
 module _ (cfg : LayoutConfig) (below : ℕ → Answer) (p : ArrayParams) where
   -- memory, by its element's
   pub record OfElements (m : MemTypeLayout) : Type 0 where
-    pub some_length : has_zero_length p.fixed_len_lem ≡ false
+    pub some_length : has_zero_length p.fixed_len ≡ false
     pub elem : MemTypeLayout
     pub laid : below p.elem ≡ ok (Concrete elem)
     pub elem_fixed : dyn_of elem ≡ 0
     pub stride : ℕ
     pub strided : stride_of cfg p.stride elem ≡ ok stride
     pub some_stride : 1 ≤ stride
-    pub parts : m.components ≡ Elements stride p.elem (length_or_zero p.fixed_len_lem)
-    pub size : size_of m ≡ stride * length_or_zero p.fixed_len_lem
+    pub parts : m.components ≡ Elements stride p.elem (length_or_zero p.fixed_len)
+    pub size : size_of m ≡ stride * length_or_zero p.fixed_len
     pub size_fits : size_of m ≤ max_u32
     pub align : align_of m ≡ align_of elem
     pub legacy : legacy_of m ≡ p.legacy (legacy_of elem)
     pub legacy_fits : legacy_of m ≤ max_u32
-    pub end : elements_end p.fixed_len_lem stride (end_of elem) ≡ ok (end_of m)
-    pub dyn : dyn_of m ≡ stride_without p.fixed_len_lem stride
+    pub dyn : dyn_of m ≡ stride_without p.fixed_len stride
 
   -- a handle array, by its element's handle; or memory
   abbrev pub ArrayIs : TypeLayout → Type 0
   ArrayIs (Handle h) = ⊥
-  ArrayIs (HandleArray h n) = (below p.elem ≡ ok (Handle h)) × (n ≡ length_or_zero p.fixed_len_lem)
+  ArrayIs (HandleArray h n) = (below p.elem ≡ ok (Handle h)) × (n ≡ length_or_zero p.fixed_len)
   ArrayIs (Concrete m) = OfElements m
 
-  by_element_is : has_zero_length p.fixed_len_lem ≡ false → (e l : TypeLayout) → below p.elem ≡ ok e → by_element cfg p e ≡ ok l → ArrayIs l
+  by_element_is : has_zero_length p.fixed_len ≡ false → (e l : TypeLayout) → below p.elem ≡ ok e → by_element cfg p e ≡ ok l → ArrayIs l
   unfolding by_element
   by_element_is z (Handle h) l b g = subst ArrayIs (value_is g) (b, refl)
   by_element_is z (HandleArray h n) l b g = absurd (never g)
@@ -49,11 +48,10 @@ module _ (cfg : LayoutConfig) (below : ℕ → Answer) (p : ArrayParams) where
       let stride = went _ _ (passed _ _ g) in
       let legacy = went _ _ (passed _ _ stride.rest) in
       let size = went _ _ legacy.rest in
-      let end = went _ _ size.rest in
       let fits-legacy = fit_is _ _ legacy.here in
       let fits-size = fit_is _ _ size.here in
       let not_zero = eqb-false stride.value 0 (not_met _ _ _ stride.rest) in
-      subst ArrayIs (value_is end.rest) record {
+      subst ArrayIs (value_is size.rest) record {
         some_length = z;
         elem = e;
         laid = b;
@@ -67,7 +65,6 @@ module _ (cfg : LayoutConfig) (below : ℕ → Answer) (p : ArrayParams) where
         align = refl;
         legacy = fits-legacy.same;
         legacy_fits = fits-legacy.fits;
-        end = end.here;
         dyn = refl;
       }
 

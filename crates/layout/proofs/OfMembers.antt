@@ -8,14 +8,14 @@ use native.Mathlib.Omega.{arith}
 use lib.Dec.{eqb}
 use lib.ListN.{get_elem?, length}
 use borrow.Author.Tests.{eqb-true, eqb-false}
-use Rattle.base_arith.specs.Refusals.{Result, ok, refused}
-use Rattle.base_arith.specs.Numbers.{max_u32, fit, round_up}
-use Rattle.base_arith.proofs.Results.{never, went, passed, not_refused, value_is, fit_is, no_some, some_is}
+use Rattle.arith.specs.Refusals.{Result, ok, refused}
+use Rattle.arith.specs.Numbers.{max_u32, fit, round_up}
+use Rattle.arith.proofs.Results.{never, went, passed, not_refused, value_is, fit_is, no_some, some_is}
 use Rattle.spirv.specs.declared.MemberDecoration.{MemberDecoration}
 use Rattle.shapes.specs.declared.LayoutConfig.{LayoutConfig}
-use Rattle.shapes.specs.Shapes.{Fields, MemTypeLayout, TypeLayout, Handle, HandleArray, Concrete, size_of, end_of, align_of, legacy_of, dyn_of}
+use Rattle.shapes.specs.Shapes.{Fields, MemTypeLayout, TypeLayout, Handle, HandleArray, Concrete, size_of, align_of, legacy_of, dyn_of}
 use Rattle.layout.specs.Arrays.{Answer, rounded}
-use Rattle.layout.specs.Structs.{in_memory, member_layouts, Extent, no_members, Placed, place_given, place_in_turn, place, final_size, members_end, block_or, struct_layout}
+use Rattle.layout.specs.Structs.{in_memory, member_layouts, Extent, no_members, Placed, place_given, place_in_turn, place, final_size, block_or, struct_layout}
 
 -- ---- members
 
@@ -160,7 +160,6 @@ module _ (cfg : LayoutConfig) (below : ℕ → Answer) where
     pub parts : m.components ≡ Fields offsets ts
     pub ends : Ends offsets layouts (size_of m)
     pub size_fits : size_of m ≤ max_u32
-    pub end : members_end offsets layouts ≡ ok (end_of m)
     pub unrounded : ℕ
     pub size : dyn_of m ≡ 0 → size_of m ≡ round_up unrounded (align_of m)
     pub align : align_of m ≡ largest 1 align_of layouts
@@ -179,13 +178,12 @@ module _ (cfg : LayoutConfig) (below : ℕ → Answer) where
       let given = went _ _ members.rest in
       let placed = went _ _ given.rest in
       let size = went _ _ placed.rest in
-      let end = went _ _ size.rest in
       let p = placed.value in
       let g = place_grew cfg given.value members.value p placed.here in
       let f = final p.extent size.value size.here in
       record {
         contents = _;
-        is = value_is end.rest;
+        is = value_is size.rest;
         of = record {
           layouts = members.value;
           offsets = p.offsets;
@@ -193,7 +191,6 @@ module _ (cfg : LayoutConfig) (below : ℕ → Answer) where
           parts = refl;
           ends = wider p.offsets members.value p.extent.size size.value f.larger g.ends;
           size_fits = f.fits (g.fits (omega arith));
-          end = end.here;
           unrounded = p.extent.size;
           size = f.rounded;
           align = g.align;

@@ -8,10 +8,9 @@ use mathlib.Core.Option.{Option, none, some}
 use native.Mathlib.Omega.{arith}
 use lib.ListN.{get_elem?}
 use borrow.Author.Tests.{eqb-false}
-use Rattle.base_arith.specs.Refusals.{Result, ok, refused}
-use Rattle.base_arith.proofs.Results.{never, value_is, passed, no_some, some_is}
-use Rattle.base_arith.proofs.RoundUp.{rounds_up}
-use Rattle.spirv.specs.declared.Stride.{Stride}
+use Rattle.arith.specs.Refusals.{Result, ok, refused}
+use Rattle.arith.proofs.Results.{never, value_is, passed, no_some, some_is}
+use Rattle.arith.proofs.RoundUp.{rounds_up}
 use Rattle.spirv.specs.Decl.{Decl}
 use Rattle.shapes.specs.declared.LayoutConfig.{LayoutConfig}
 use Rattle.shapes.specs.Shapes.{Components, Scalar, Elements, Fields, HandleLayout, MemTypeLayout, TypeLayout, Handle, HandleArray, Concrete, size_of, align_of, dyn_of, contents_of}
@@ -44,8 +43,7 @@ module _ (s : Sheet) (below : ℕ → Answer) (kept : (u : ℕ) (m : TypeLayout)
         part_fixed = o.elem_fixed;
         some_stride = o.some_stride;
         size = o.size;
-        size_fits = o.size_fits;
-        fixed = λ z. some_length p.fixed_len_lem o.stride o.some_length o.some_stride (sym o.dyn ∙ z);
+        fixed = λ z. some_length p.fixed_len o.stride o.some_length o.some_stride (sym o.dyn ∙ z);
       }
 
   fields_of : (ts : List ℕ) (m : MemTypeLayout) → OfMembers s.setting below ts m → PartsOf s m m.components
@@ -88,8 +86,8 @@ parts s l m (t, of) c = ⊎_elim of_type of_array of
     of_type : answer_in s t ≡ ok l → PartsOf s m m.components
     of_type h = let i = laid_in s t l h in rule_parts s i.below i.kept i.decl _ l m c (sym i.made ∙ h)
 
-    of_array : (stride : Stride) × (runtime_array_in s t stride ≡ ok l) → PartsOf s m m.components
-    of_array (stride, h) = array_parts s (answer_in s) (λ u x e. e) _ l m c h
+    of_array : runtime_array_in s t ≡ ok l → PartsOf s m m.components
+    of_array h = array_parts s (answer_in s) (λ u x e. e) _ l m c h
 
 -- ---- handles
 
@@ -99,14 +97,11 @@ block_no_array false m h n e = let z : ◌≡◌ {A = ℕ} 0 1 = cc in omega ari
 
 pub handles : Handles
 unfolding layout_of by_rule number_layout runtime_array_by
-handles s h n (t, of) = ⊎_elim of_type of_runtime_lem of
+handles s h n (t, of) = ⊎_elim of_type (of_array (answer_in s) (λ u x e. e) _) of
   where
     of_array : (below : ℕ → Answer) → ((u : ℕ) (m : TypeLayout) → below u ≡ ok m → answer_in s u ≡ ok m) → (p : ArrayParams)
         → array_layout s.setting below p ≡ ok (HandleArray h n) → (elem : ℕ) × (answer_in s elem ≡ ok (Handle h))
     of_array below kept p g = let i = array_is s.setting below p (HandleArray h n) g in (p.elem, kept p.elem (Handle h) i.0)
-
-    of_runtime_lem : (stride : Stride) × (runtime_array_in s t stride ≡ ok (HandleArray h n)) → (elem : ℕ) × (answer_in s elem ≡ ok (Handle h))
-    of_runtime_lem (stride, g) = of_array (answer_in s) (λ u x e. e) _ g
 
     by_case : (below : ℕ → Answer) → ((u : ℕ) (m : TypeLayout) → below u ≡ ok m → answer_in s u ≡ ok m) → (d : Decl) (r : Rule)
         → by_rule s.setting below d r ≡ ok (HandleArray h n) → (elem : ℕ) × (answer_in s elem ≡ ok (Handle h))

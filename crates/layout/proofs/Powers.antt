@@ -7,10 +7,10 @@ use mathlib.Core.Option.{Option, none, some}
 use native.Mathlib.Omega.{arith}
 use lib.Dec.{leb}
 use borrow.Author.Tests.{leb-true}
-use Rattle.base_arith.specs.Refusals.{Result, ok, refused}
-use Rattle.base_arith.specs.Numbers.{is_power_of_two}
-use Rattle.base_arith.proofs.Results.{never, value_is, passed, not_refused, no_some, some_is, first_true, second_true}
-use Rattle.base_arith.proofs.Powers.{Pow2, pow_max, pow_twice, power, pow_width}
+use Rattle.arith.specs.Refusals.{Result, ok, refused}
+use Rattle.arith.specs.Numbers.{is_power_of_two}
+use Rattle.arith.proofs.Results.{never, value_is, passed, not_refused, no_some, some_is, first_true, second_true}
+use Rattle.arith.proofs.Powers.{Pow2, pow_max, pow_twice, power, pow_width}
 use Rattle.spirv.specs.declared.Length.TheVariants.{Fixed, Specialization}
 use Rattle.spirv.specs.declared.SpvType.{SpvType}
 use Rattle.spirv.specs.declared.SpvType.TheVariants as spv
@@ -67,7 +67,7 @@ module _ (cfg : LayoutConfig) (good : good_setting cfg ≡ true) where
   rule_powers (spv.Array elem Specialization stride) = tt
   rule_powers (spv.RuntimeArray elem stride) = λ n p. pow_max n _ p least_power
   rule_powers (spv.Struct block) = tt
-  rule_powers (spv.Pointer class pointee stride) = power _ (second_true (is_power_of_two cfg.abstract_bool_align) _ (second_true (is_power_of_two cfg.min_aggregate_legacy_align) _ good))
+  rule_powers (spv.Pointer class pointee) = power _ (second_true (is_power_of_two cfg.abstract_bool_align) _ (second_true (is_power_of_two cfg.min_aggregate_legacy_align) _ good))
   rule_powers spv.Opaque = tt
   rule_powers spv.Unsupported = tt
 

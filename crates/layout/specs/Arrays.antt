@@ -1,12 +1,12 @@
 -- Document 01, "Files as they stay": int, float, bool and pointer; and the one rule of vector, matrix and arrays.
-use Rattle.std.specs.Prelude.{ℕ, ◌+◌, ◌-◌, ◌*◌, ◌/◌, max, Bool, true, false, cond, ◌&&◌, ◌||◌, leb, eqb}
+use Rattle.std.specs.Prelude.{ℕ, ◌*◌, ◌/◌, max, Bool, true, false, cond, ◌&&◌, ◌||◌, leb, eqb}
 use Rattle.std.proofs.Math.Option.{Option, none, some}
-use Rattle.base_arith.specs.Refusals.{Result, ok, refused, ◌>>=◌, ◌>>◌, refuse◌when◌, refuse◌unless◌, odd_width, zero_length, zero_stride, nested_handles, unsized_element, ambiguous}
-use Rattle.base_arith.specs.Numbers.{fit, round_up, is_power_of_two}
+use Rattle.arith.specs.Refusals.{Result, ok, refused, ◌>>=◌, ◌>>◌, refuse◌when◌, refuse◌unless◌, odd_width, zero_length, zero_stride, nested_handles, unsized_element, ambiguous}
+use Rattle.arith.specs.Numbers.{fit, round_up, is_power_of_two}
 use Rattle.spirv.specs.declared.Stride.{Stride}
 use Rattle.spirv.specs.declared.Stride.TheVariants.{Decorated, Undecorated}
 use Rattle.shapes.specs.declared.LayoutConfig.{LayoutConfig}
-use Rattle.shapes.specs.Shapes.{Scalar, Elements, MemTypeLayout, TypeLayout, Handle, HandleArray, Concrete, size_of, end_of, align_of, legacy_of, runtime_sized, memory}
+use Rattle.shapes.specs.Shapes.{Scalar, Elements, MemTypeLayout, TypeLayout, Handle, HandleArray, Concrete, size_of, align_of, legacy_of, runtime_sized, memory}
 
 -- a type's layout, or the refusal that waits for a question
 abbrev pub Answer : Type 0
@@ -14,9 +14,9 @@ Answer = Result TypeLayout
 
 -- ---- scalars
 
--- legacy alignment is the same; data ends with the size
+-- legacy alignment is the same
 abbrev pub scalar_layout : (size align : ℕ) → TypeLayout
-scalar_layout size align = Concrete (memory size size align align 0 Scalar)
+scalar_layout size align = Concrete (memory size align align 0 Scalar)
 
 -- int and float: size and both alignments are width / 8
 unfoldable pub number_layout : (width : ℕ) → Answer
@@ -39,7 +39,7 @@ rounded cfg n m = do
 -- what tells them apart: the length, where there is one; the decoration; the legacy alignment by the element's
 pub record ArrayParams : Type 0 where
   pub elem : ℕ
-  pub fixed_len_lem : Option ℕ
+  pub fixed_len : Option ℕ
   pub stride : Stride
   pub legacy : ℕ → ℕ
 
@@ -62,36 +62,22 @@ unfoldable pub stride_of : LayoutConfig → Stride → MemTypeLayout → Result 
 stride_of cfg (Decorated stride) e = ok stride
 stride_of cfg Undecorated e = rounded cfg (size_of e) e
 
--- ---- where the data ends (document 02, d)
-
--- of a part at a byte, by its own end; a part of end 0 is left out
-unfoldable pub part_end : (at end : ℕ) → Result ℕ
-part_end at end = cond (eqb end 0) (ok 0) (fit (at + end))
-
--- stride × (length − 1) plus the element's end; without length the size, which is 0
-unfoldable pub elements_end : (fixed_len_lem : Option ℕ) → (stride end : ℕ) → Result ℕ
-elements_end none stride end = ok 0
-elements_end (some len) stride end = part_end (stride * (len - 1)) end
-
--- ---- an array
-
--- by its element's layout: a handle, then it is a handle array; a handle array; runtime-sized; stride
+-- an array by its element's layout: a handle, then it is a handle array; a handle array; runtime-sized; stride
 unfoldable pub by_element : LayoutConfig → ArrayParams → TypeLayout → Answer
-by_element cfg p (Handle h) = ok (HandleArray h (length_or_zero p.fixed_len_lem))
+by_element cfg p (Handle h) = ok (HandleArray h (length_or_zero p.fixed_len))
 by_element cfg p (HandleArray h n) = refused nested_handles
 by_element cfg p (Concrete e) = do
   refuse unsized_element when runtime_sized e
   stride ← stride_of cfg p.stride e
   refuse zero_stride when eqb stride 0
   legacy ← fit (p.legacy (legacy_of e))
-  size ← fit (stride * length_or_zero p.fixed_len_lem)
-  end ← elements_end p.fixed_len_lem stride (end_of e)
-  ok (Concrete (memory size end (align_of e) legacy (stride_without p.fixed_len_lem stride) (Elements stride p.elem (length_or_zero p.fixed_len_lem))))
+  size ← fit (stride * length_or_zero p.fixed_len)
+  ok (Concrete (memory size (align_of e) legacy (stride_without p.fixed_len stride) (Elements stride p.elem (length_or_zero p.fixed_len))))
 
 -- zero length comes before the element's own refusal
 unfoldable pub array_layout : LayoutConfig → (below : ℕ → Answer) → ArrayParams → Answer
 array_layout cfg below p = do
-  refuse zero_length when has_zero_length p.fixed_len_lem
+  refuse zero_length when has_zero_length p.fixed_len
   e ← below p.elem
   by_element cfg p e
 
@@ -104,10 +90,10 @@ abbrev pub aggregate_legacy : LayoutConfig → ℕ → ℕ
 aggregate_legacy cfg legacy = max legacy cfg.min_aggregate_legacy_align
 
 unfoldable pub vector_params : (elem len : ℕ) → ArrayParams
-vector_params elem len = record { elem = elem; fixed_len_lem = some len; stride = Undecorated; legacy = vector_legacy len }
+vector_params elem len = record { elem = elem; fixed_len = some len; stride = Undecorated; legacy = vector_legacy len }
 
 unfoldable pub fixed_params : LayoutConfig → (elem len : ℕ) → Stride → ArrayParams
-fixed_params cfg elem len stride = record { elem = elem; fixed_len_lem = some len; stride = stride; legacy = aggregate_legacy cfg }
+fixed_params cfg elem len stride = record { elem = elem; fixed_len = some len; stride = stride; legacy = aggregate_legacy cfg }
 
 unfoldable pub runtime_params : LayoutConfig → (elem : ℕ) → Stride → ArrayParams
-runtime_params cfg elem stride = record { elem = elem; fixed_len_lem = none; stride = stride; legacy = aggregate_legacy cfg }
+runtime_params cfg elem stride = record { elem = elem; fixed_len = none; stride = stride; legacy = aggregate_legacy cfg }

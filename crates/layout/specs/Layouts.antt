@@ -1,8 +1,7 @@
 -- Document 01, "Files as they stay": which rule each type follows; and "From heap trees to tables": one record a type, filled from type 0 upward.
 use Rattle.std.specs.Prelude.{ℕ, List, [], Bool, length, get_or}
-use Rattle.base_arith.specs.Refusals.{Result, ok, refused, in_room, misread, unsupported, specialization}
+use Rattle.arith.specs.Refusals.{Result, ok, refused, in_room, misread, unsupported, specialization}
 use Rattle.spirv.specs.declared.Length.TheVariants.{Fixed, Specialization}
-use Rattle.spirv.specs.declared.Stride.{Stride}
 use Rattle.spirv.specs.declared.Stride.TheVariants.{Undecorated}
 use Rattle.spirv.specs.declared.SpvType.{SpvType}
 use Rattle.spirv.specs.declared.SpvType.TheVariants as spv
@@ -34,7 +33,7 @@ rule_of cfg (spv.Array elem (Fixed len) stride) = of_elements (fixed_params cfg 
 rule_of cfg (spv.Array elem Specialization stride) = no_layout specialization
 rule_of cfg (spv.RuntimeArray elem stride) = of_elements (runtime_params cfg elem stride)
 rule_of cfg (spv.Struct block) = of_members block
-rule_of cfg (spv.Pointer class pointee stride) = of_setting cfg.logical_ptr_size cfg.logical_ptr_align
+rule_of cfg (spv.Pointer class pointee) = of_setting cfg.logical_ptr_size cfg.logical_ptr_align
 rule_of cfg spv.Opaque = of_handle
 rule_of cfg spv.Unsupported = no_layout unsupported
 
@@ -61,12 +60,12 @@ unfoldable pub answer_in : Sheet → ℕ → Answer
 unfolding layouts
 answer_in s t = get_or (layouts s.setting s.types) t (refused misread)
 
--- the runtime array of a type, from which 67 and 70 start: undecorated, or of the stride that the pointer carries (document 02, b)
-unfoldable pub runtime_array_by : LayoutConfig → (answer-of : ℕ → Answer) → ℕ → Stride → Answer
-runtime_array_by cfg answer-of t stride = array_layout cfg answer-of (runtime_params cfg t stride)
+-- the undecorated runtime array of a type, from which 67 and 70 start
+unfoldable pub runtime_array_by : LayoutConfig → (answer-of : ℕ → Answer) → ℕ → Answer
+runtime_array_by cfg answer-of t = array_layout cfg answer-of (runtime_params cfg t Undecorated)
 
-abbrev pub runtime_array_in : Sheet → ℕ → Stride → Answer
-runtime_array_in s t stride = runtime_array_by s.setting (answer_in s) t stride
+abbrev pub runtime_array_in : Sheet → ℕ → Answer
+runtime_array_in s t = runtime_array_by s.setting (answer_in s) t
 
 -- ---- the question T: layout, 24
 

@@ -1,21 +1,11 @@
 -- Document 01, "Lookup on elements" and "On fields": the components that hold a range of bytes (`find_components_containing`); and the question Q.
 use Rattle.std.specs.Prelude.{ℕ, ◌+◌, ◌*◌, ◌/◌, Bool, true, false, cond, ◌&&◌, ◌||◌, List, [], ◌∷◌, leb, ltb, eqb, length}
-use Rattle.base_arith.specs.Refusals.{Result, ok, refused, ◌>>=◌, ◌>>◌, refuse◌when◌, refuse◌unless◌, in_room, misread, no_parts, reversed}
-use Rattle.base_arith.specs.Numbers.{max_u32}
+use Rattle.arith.specs.Refusals.{Result, ok, refused, ◌>>=◌, ◌>>◌, refuse◌when◌, refuse◌unless◌, in_room, misread, no_parts, reversed}
+use Rattle.arith.specs.Numbers.{max_u32}
 use Rattle.shapes.specs.Shapes.{Components, Scalar, Elements, Fields, MemTypeLayout, TypeLayout, Handle, HandleArray, Concrete, size_of, runtime_sized}
 use Rattle.sheet.specs.Sheet.{Sheet}
 use Rattle.layout.specs.Arrays.{Answer}
 use Rattle.layout.specs.Layouts.{answer_in}
-
--- what lookup answers: components, rising; or 'end', the very end of an array (document 02, e)
-pub data Found : Type 0 where
-  Holding : List ℕ → Found
-  AtEnd : Found
-
--- the room that it takes in a lent list: 'end' takes none
-abbrev pub room_of : Found → ℕ
-room_of (Holding ns) = length ns
-room_of AtEnd = 0
 
 -- ---- on elements
 
@@ -23,16 +13,12 @@ room_of AtEnd = 0
 unfoldable pub size_at_index : (index len size : ℕ) → ℕ
 size_at_index index len size = cond (eqb len 0) size (cond (eqb index len) 0 size)
 
--- 'end' where the index equals the length
-unfoldable pub element_or_end : (index len : ℕ) → Found
-element_or_end index len = cond (eqb len 0) (Holding (index ∷ [])) (cond (eqb index len) AtEnd (Holding (index ∷ [])))
-
 -- index is start / stride; none beyond the length, or where the element's end is below the range's or above 32 bits
-unfoldable pub element_holding : (stride len size start end : ℕ) → Found
+unfoldable pub element_holding : (stride len size start end : ℕ) → List ℕ
 element_holding stride len size start end =
     let index = start / stride in
     let element_end = index * stride + size_at_index index len size in
-    cond ((eqb len 0 || leb index len) && (leb end element_end && leb element_end max_u32)) (element_or_end index len) (Holding [])
+    cond ((eqb len 0 || leb index len) && (leb end element_end && leb element_end max_u32)) (index ∷ []) []
 
 -- ---- on fields
 
@@ -65,10 +51,10 @@ size_of_part (ok (HandleArray h n)) = 0
 size_of_part (ok (Concrete m)) = size_of m
 
 -- a scalar has none
-unfoldable pub components_containing : (answer-of : ℕ → Answer) → Components → (start end : ℕ) → Found
-components_containing answer-of Scalar start end = Holding []
+unfoldable pub components_containing : (answer-of : ℕ → Answer) → Components → (start end : ℕ) → List ℕ
+components_containing answer-of Scalar start end = []
 components_containing answer-of (Elements stride elem len) start end = element_holding stride len (size_of_part (answer-of elem)) start end
-components_containing answer-of (Fields offsets types) start end = Holding (fields_holding answer-of offsets types 0 start end)
+components_containing answer-of (Fields offsets types) start end = fields_holding answer-of offsets types 0 start end
 
 -- 19 on a handle
 unfoldable pub in_memory_only : TypeLayout → Result Components
@@ -77,7 +63,7 @@ in_memory_only (HandleArray h n) = refused no_parts
 in_memory_only (Concrete m) = ok m.components
 
 -- by how many types there are and what a type answers: 28, layout, 19; a number that is no type is 1 before these
-unfoldable pub lookup_by : (types : ℕ) → (answer-of : ℕ → Answer) → (type start end : ℕ) → Result Found
+unfoldable pub lookup_by : (types : ℕ) → (answer-of : ℕ → Answer) → (type start end : ℕ) → Result (List ℕ)
 lookup_by types answer-of type start end = do
   refuse misread unless ltb type types
   refuse reversed when ltb end start
@@ -86,9 +72,9 @@ lookup_by types answer-of type start end = do
   ok (components_containing answer-of c start end)
 
 -- by what the sheet says
-abbrev pub lookup : Sheet → (type start end : ℕ) → Result Found
+abbrev pub lookup : Sheet → (type start end : ℕ) → Result (List ℕ)
 lookup s type start end = lookup_by (length s.types) (answer_in s) type start end
 
 -- and 24
-unfoldable pub lookup_in_room : (room : ℕ) → Sheet → (type start end : ℕ) → Result Found
-lookup_in_room room s type start end = in_room room room_of (lookup s type start end)
+unfoldable pub lookup_in_room : (room : ℕ) → Sheet → (type start end : ℕ) → Result (List ℕ)
+lookup_in_room room s type start end = in_room room length (lookup s type start end)

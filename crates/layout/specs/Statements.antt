@@ -1,17 +1,14 @@
 -- Document 01, "Files as they stay": what the layout rules say together of every layout of a sheet, as statements.
-use Rattle.std.specs.Prelude.{ℕ, suc, ◌+◌, ◌*◌, ◌^◌, ◌≤◌, ◌<◌, ◌≡◌, Bool, true, false, List, [], ◌∷◌, ◌↔◌, ◌⊎◌, length, get_or}
+use Rattle.std.specs.Prelude.{ℕ, suc, ◌+◌, ◌*◌, ◌^◌, ◌≤◌, ◌<◌, ◌≡◌, Bool, true, false, List, [], ◌∷◌, ◌↔◌, ◌⊎◌, length}
 use Rattle.std.proofs.Math.Option.{Option, none, some}
 use Rattle.std.proofs.Math.ListN.{get_elem?}
-use Rattle.base_arith.specs.Numbers.{max_u32}
-use Rattle.base_arith.specs.Refusals.{ok, refused, misread, unsupported, ambiguous}
-use Rattle.spirv.specs.declared.Stride.{Stride}
-use Rattle.spirv.specs.Decl.{Decl}
-use Rattle.shapes.specs.declared.LayoutConfig.{LayoutConfig}
+use Rattle.arith.specs.Numbers.{max_u32}
+use Rattle.arith.specs.Refusals.{ok, refused, unsupported, ambiguous}
 use Rattle.shapes.specs.Shapes.{Components, Scalar, Elements, Fields, HandleLayout, MemTypeLayout, TypeLayout, Handle, HandleArray, Concrete, size_of, align_of, legacy_of, dyn_of, contents_of, shown_memory}
 use Rattle.sheet.specs.Sheet.{Sheet, good_setting}
 use Rattle.sheet.specs.Statements.{All, GoodSheet}
-use Rattle.layout.specs.Layouts.{layouts, answer_in, runtime_array_in}
-use Rattle.layout.specs.Lookup.{Found, Holding, AtEnd, lookup}
+use Rattle.layout.specs.Layouts.{answer_in, runtime_array_in}
+use Rattle.layout.specs.Lookup.{size_at_index, lookup}
 
 -- ---- parts: what memory is made of
 
@@ -35,7 +32,6 @@ pub record ElementsOf (s : Sheet) (m : MemTypeLayout) (stride elem len : ℕ) : 
   pub part_fixed : dyn_of part ≡ 0
   pub some_stride : 1 ≤ stride
   pub size : size_of m ≡ stride * len
-  pub size_fits : size_of m ≤ max_u32
   pub fixed : dyn_of m ≡ 0 → 1 ≤ len
 
 abbrev pub PartsOf : Sheet → MemTypeLayout → Components → Type 0
@@ -45,7 +41,7 @@ PartsOf s m (Fields offsets types) = FieldsOf s m offsets types
 
 -- a layout of the sheet: of a type, or of the runtime array from which 67 and 70 start
 abbrev pub IsLayoutIn : Sheet → TypeLayout → Type 0
-IsLayoutIn s l = (t : ℕ) × ((answer_in s t ≡ ok l) ⊎ ((stride : Stride) × (runtime_array_in s t stride ≡ ok l)))
+IsLayoutIn s l = (t : ℕ) × ((answer_in s t ≡ ok l) ⊎ (runtime_array_in s t ≡ ok l))
 
 abbrev pub Parts : Type 0
 Parts = (s : Sheet) (l : TypeLayout) (m : MemTypeLayout) → IsLayoutIn s l → contents_of l ≡ some m → PartsOf s m m.components
@@ -81,13 +77,6 @@ IsLayoutRefusal n = (unsupported ≤ n) × (n ≤ ambiguous)
 abbrev pub LayoutRefusals : Type 0
 LayoutRefusals = (s : Sheet) → GoodSheet s → (t n : ℕ) → t < length s.types → answer_in s t ≡ refused n → IsLayoutRefusal n
 
--- and of any list of declarations these, and 1 for a number that is no type: what a row of a table of layouts can hold
-abbrev pub IsRowRefusal : ℕ → Type 0
-IsRowRefusal n = (n ≡ misread) ⊎ IsLayoutRefusal n
-
-abbrev pub DeclaredRefusals : Type 0
-DeclaredRefusals = (cfg : LayoutConfig) (ds : List Decl) (t n : ℕ) → get_or (layouts cfg ds) t (refused misread) ≡ refused n → IsRowRefusal n
-
 -- ---- lookup: just what holds the range is found, in rising order
 
 -- n is one of a list
@@ -111,37 +100,21 @@ pub record FieldHolding (s : Sheet) (offsets types : List ℕ) (start end n : �
   pub begins : offset ≤ start
   pub ends : dyn_of part ≡ 0 → end ≤ offset + size_of part
 
--- element n holds the range: it begins at its start or before, the next one behind it, and ends at its end or behind
+-- element n holds the range: it begins at its start or before, the next one behind it, and ends at its end or behind; behind the last it has size 0
 pub record ElementHolding (stride len size start end n : ℕ) : Type 0 where
   pub begins : n * stride ≤ start
   pub next : start < n * stride + stride
-  pub in_length : 1 ≤ len → n < len
-  pub ends : end ≤ n * stride + size
-  pub fits : n * stride + size ≤ max_u32
+  pub in_length : 1 ≤ len → n ≤ len
+  pub ends : end ≤ n * stride + size_at_index n len size
+  pub fits : n * stride + size_at_index n len size ≤ max_u32
 
--- the range is the very end of an array: it is empty, where the element behind the last would begin
-pub record VeryEnd (stride len start end : ℕ) : Type 0 where
-  pub some_length : 1 ≤ len
-  pub starts : start ≡ stride * len
-  pub ends : end ≡ stride * len
-
--- 'end' just there; elsewhere just the element that holds the range
-abbrev pub FoundElement : (stride len size start end : ℕ) → Found → Type 0
-FoundElement stride len size start end AtEnd = VeryEnd stride len start end
-FoundElement stride len size start end (Holding ns) =
-    (VeryEnd stride len start end → ⊥) × (length ns ≤ 1) × ((n : ℕ) → Has ns n ↔ ElementHolding stride len size start end n)
-
--- just the fields that hold the range, in rising order
-abbrev pub FoundFields : Sheet → (offsets types : List ℕ) → (start end : ℕ) → Found → Type 0
-FoundFields s offsets types start end AtEnd = ⊥
-FoundFields s offsets types start end (Holding ns) = RisingFrom 0 ns × ((n : ℕ) → Has ns n ↔ FieldHolding s offsets types start end n)
-
-abbrev pub FoundIn : Sheet → (start end : ℕ) → Found → Components → Type 0
-FoundIn s start end found Scalar = found ≡ Holding []
-FoundIn s start end found (Elements stride elem len) = (e : MemTypeLayout) → answer_in s elem ≡ ok (Concrete e) → FoundElement stride len (size_of e) start end found
-FoundIn s start end found (Fields offsets types) = FoundFields s offsets types start end found
+abbrev pub FoundIn : Sheet → (start end : ℕ) → List ℕ → Components → Type 0
+FoundIn s start end found Scalar = found ≡ []
+FoundIn s start end found (Elements stride elem len) =
+    (e : MemTypeLayout) → answer_in s elem ≡ ok (Concrete e) → (length found ≤ 1) × ((n : ℕ) → Has found n ↔ ElementHolding stride len (size_of e) start end n)
+FoundIn s start end found (Fields offsets types) = RisingFrom 0 found × ((n : ℕ) → Has found n ↔ FieldHolding s offsets types start end n)
 
 abbrev pub Lookup : Type 0
 Lookup =
-    (s : Sheet) (t start end : ℕ) (found : Found) → lookup s t start end ≡ ok found
+    (s : Sheet) (t start end : ℕ) (found : List ℕ) → lookup s t start end ≡ ok found
     → (m : MemTypeLayout) × (answer_in s t ≡ ok (Concrete m)) × FoundIn s start end found m.components

@@ -6,8 +6,8 @@ use mathlib.Core.List.{List, [], ◌∷◌}
 use lib.IntN.{pos}
 use lib.ListN.{length, get_or}
 use borrow.Author.Tests.{le-leb, lt-leb}
-use Rattle.base_arith.specs.Refusals.{Result, ok, refused, field_outside}
-use Rattle.base_arith.specs.Numbers.{max_i32, signed}
+use Rattle.arith.specs.Refusals.{Result, ok, refused, field_outside}
+use Rattle.arith.specs.Numbers.{max_i32, signed}
 use Rattle.lower.specs.Steps.{Field, field_at, field_of}
 
 pub field_there : (os ts : List ℕ) (n : ℕ) → n < length os → n < length ts → field_at os ts n ≡ ok record { offset = get_or os n 0; type = get_or ts n 0 }

@@ -10,11 +10,11 @@ use mir.Syntax.{w32}
 use mir.Val.{SFits, to_z, of_z}
 use mir.ValLaws.{to_z-of_z}
 use borrow.Author.Tests.{le-leb, lt-leb, eq-eqb, ne_eqb}
-use Rattle.base_arith.specs.Refusals.{Result, ok, refused, ◌>>=◌, ◌>>◌, refuse◌unless◌, step_overflow}
-use Rattle.base_arith.specs.Numbers.{max_i32, max_u32, signed, is_i32, is_zero}
-use Rattle.base_arith.specs.Checked.{checked_i32}
-use Rattle.base_arith.specs.declared.CheckedI32.{CheckedI32}
-use Rattle.base_arith.proofs.Fitting.{narrow_is, wide_is}
+use Rattle.arith.specs.Refusals.{Result, ok, refused, ◌>>=◌, ◌>>◌, refuse◌unless◌, step_overflow}
+use Rattle.arith.specs.Numbers.{max_i32, max_u32, signed, is_i32, is_zero}
+use Rattle.arith.specs.Checked.{checked_i32}
+use Rattle.arith.specs.declared.CheckedI32.{CheckedI32}
+use Rattle.arith.proofs.Fitting.{narrow_is, wide_is}
 use Rattle.spirv.specs.declared.Index.{Index}
 use Rattle.spirv.specs.declared.Index.TheVariants.{Known, Unknown}
 use Rattle.lower.specs.declared.Pending.{Pending}
@@ -22,7 +22,7 @@ use Rattle.lower.specs.declared.Pending.TheVariants.{Empty, Waiting}
 use Rattle.lower.specs.declared.Merged.{Merged}
 use Rattle.lower.specs.declared.Constant.{Constant}
 use Rattle.lower.specs.Steps.{added, merged, bound_of, in_bound, constant_offset}
-use Rattle.lower.specs.InCode.{as_merged, as_constant, merged_in}
+use Rattle.lower.specs.InCode.{as_merged, as_constant}
 
 -- ---- bounds
 
@@ -123,21 +123,3 @@ pub dynamic_is : (o : Option ℤ) → as_constant o ≡ Constant.Dynamic → o �
 unfolding as_constant
 dynamic_is (some y) h = let x : ◌≡◌ {A = ℕ} 0 1 = cc in absurd (omega arith)
 dynamic_is none h = refl
-
--- ---- the enum tells the definition's result: 23 alone is lost on the way, and there is no other
-
-pub merged_told : (p : Pending) (z : ℤ) → merged_in (as_merged (merged p z)) ≡ merged p z
-unfolding merged added as_merged ◌>>◌ refuse◌unless◌
-merged_told p z = by (is_zero z)
-  where
-    sum : (p : Pending) (t : Bool) → (x : ℤ) → merged_in (as_merged ((refuse step_overflow unless t) >> ok (Waiting x))) ≡ ((refuse step_overflow unless t) >> ok (Waiting x))
-    sum p true x = refl
-    sum p false x = refl
-
-    by_pending : (p : Pending) → merged_in (as_merged (added p z)) ≡ added p z
-    by_pending Empty = refl
-    by_pending (Waiting y) = sum p (is_i32 (y +ℤ z)) (y +ℤ z)
-
-    by : (t : Bool) → merged_in (as_merged (cond t (ok p) (added p z))) ≡ cond t (ok p) (added p z)
-    by true = refl
-    by false = by_pending p

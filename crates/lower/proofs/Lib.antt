@@ -1,7 +1,6 @@
 pub mod Examples
 pub mod Fields
 pub mod InCode
-pub mod InMemory
 pub mod Moves
 pub mod Neighbours
 pub mod Onward

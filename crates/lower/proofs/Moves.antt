@@ -7,14 +7,14 @@ use mathlib.Core.Option.{Option, none, some}
 use lib.Dec.{leb}
 use lib.IntN.{ℤ, pos, negsuc, ◌+ℤ◌, ◌*ℤ◌}
 use lib.ListN.{get_elem?}
-use Rattle.base_arith.specs.Refusals.{Result, ok, refused}
-use Rattle.base_arith.specs.Numbers.{max_i32, signed, is_i32, is_zero}
-use Rattle.base_arith.proofs.Results.{never, value_is, went, passed, not_refused, no_some, first_true, second_true, let_through}
+use Rattle.arith.specs.Refusals.{Result, ok, refused}
+use Rattle.arith.specs.Numbers.{max_i32, signed, is_i32, is_zero}
+use Rattle.arith.proofs.Results.{never, value_is, went, passed, not_refused, no_some, first_true, second_true, let_through}
 use Rattle.spirv.specs.declared.ChainOp.{ChainOp}
 use Rattle.spirv.specs.declared.Index.{Index}
 use Rattle.spirv.specs.declared.Index.TheVariants.{Known, Unknown}
 use Rattle.shapes.specs.Shapes.{Components, Scalar, Elements, Fields, Opaque, Buffer, TypeLayout, Handle, HandleArray, Concrete}
-use Rattle.sheet.specs.Sheet.{Sheet, pointee_in, pointer_stride_in}
+use Rattle.sheet.specs.Sheet.{Sheet, pointee_in}
 use Rattle.layout.specs.Arrays.{Answer}
 use Rattle.layout.specs.Layouts.{answer_in}
 use Rattle.lower.specs.declared.QPtrOp.{QPtrOp}
@@ -190,7 +190,7 @@ pub record Begun (s : Sheet) (op : ChainOp) (ptr : ℕ) (is : List Index) (steps
   pub pointee : ℕ
   pub points : pointee_in s ptr ≡ ok pointee
   pub layout : TypeLayout
-  pub laid : start_layout s.setting (answer_in s) op pointee (pointer_stride_in s ptr) ≡ ok layout
+  pub laid : start_layout s.setting (answer_in s) op pointee ≡ ok layout
   pub lowered : lower_from (answer_in s) layout Empty is ≡ ok steps
 
 pub begun : (s : Sheet) (op : ChainOp) (ptr : ℕ) (is : List Index) (steps : List QPtrOp) → Accepted s op ptr is steps → Begun s op ptr is steps

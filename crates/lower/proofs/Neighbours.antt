@@ -5,7 +5,7 @@ use mathlib.Core.Bool.{Bool, true, false}
 use mathlib.Core.List.{List, [], ◌∷◌, ◌++◌}
 use mathlib.Core.Option.{Option, none, some}
 use lib.IntN.{ℤ}
-use Rattle.base_arith.specs.Refusals.{Result, ok}
+use Rattle.arith.specs.Refusals.{Result, ok}
 use Rattle.spirv.specs.declared.Index.{Index}
 use Rattle.shapes.specs.Shapes.{Components, Scalar, Elements, Fields, Opaque, Buffer, TypeLayout, Handle, HandleArray, Concrete}
 use Rattle.layout.specs.Arrays.{Answer}

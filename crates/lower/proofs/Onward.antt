@@ -2,13 +2,12 @@
 use Prim.Native.Nat.{ℕ}
 use mathlib.Core.Path.{◌≡◌, refl, sym, ap, ◌∙◌, subst}
 use mathlib.Core.Logic.{inl, inr}
-use Rattle.base_arith.specs.Refusals.{Result, ok}
-use Rattle.base_arith.proofs.Results.{value_is}
+use Rattle.arith.specs.Refusals.{Result, ok}
+use Rattle.arith.proofs.Results.{value_is}
 use Rattle.spirv.specs.declared.ChainOp.{ChainOp}
 use Rattle.spirv.specs.declared.ChainOp.TheVariants.{AccessChain, InBoundsAccessChain, PtrAccessChain, InBoundsPtrAccessChain}
 use Rattle.spirv.specs.declared.Index.{Index}
 use Rattle.shapes.specs.Shapes.{Components, Scalar, Elements, Fields, Opaque, Buffer, MemTypeLayout, TypeLayout, Handle, HandleArray, Concrete}
-use Rattle.spirv.specs.declared.Stride.{Stride}
 use Rattle.sheet.specs.Sheet.{Sheet}
 use Rattle.layout.specs.Layouts.{answer_in}
 use Rattle.layout.specs.Statements.{IsLayoutIn, PartsOf}
@@ -33,21 +32,17 @@ part_onward s m (Fields os ts) q i p a h =
     let f = q.each h.n h.field.type h.field.offset h.is.of_type h.is.at in
     record { type = h.field.type; laid = h.laid; memory = f.part; is = value_is (sym h.laid ∙ f.laid) }
 
--- each index leads to the layout of a type
-pub onward_type : (s : Sheet) (l : TypeLayout) → IsLayoutIn s l → (i : Index) (p : Pending) (a : Move) → Moved (answer_in s) l i p a → (t : ℕ) × (answer_in s t ≡ ok a.layout)
-onward_type s (Handle Opaque) o i p a h = absurd h
-onward_type s (Handle (Buffer m)) o i p a h =
-    let e = part_onward s m m.components (parts s (Handle (Buffer m)) m o refl) i Empty h.inner h.by in
-    (e.type, e.laid ∙ ap ok (sym h.layout))
-onward_type s (HandleArray k n) o i p a h = let (elem, e) = handles s k n o in (elem, e ∙ ap ok (sym h.2))
-onward_type s (Concrete m) o i p a h = let e = part_onward s m m.components (parts s (Concrete m) m o refl) i p a h in (e.type, e.laid)
-
 pub onward : (s : Sheet) (l : TypeLayout) → IsLayoutIn s l → (i : Index) (p : Pending) (a : Move) → Moved (answer_in s) l i p a → IsLayoutIn s a.layout
-onward s l o i p a h = let (t, e) = onward_type s l o i p a h in (t, inl e)
+onward s (Handle Opaque) o i p a h = absurd h
+onward s (Handle (Buffer m)) o i p a h =
+    let e = part_onward s m m.components (parts s (Handle (Buffer m)) m o refl) i Empty h.inner h.by in
+    subst (IsLayoutIn s) (sym h.layout) (e.type, inl e.laid)
+onward s (HandleArray k n) o i p a h = let (elem, e) = handles s k n o in subst (IsLayoutIn s) (sym h.2) (elem, inl e)
+onward s (Concrete m) o i p a h = let e = part_onward s m m.components (parts s (Concrete m) m o refl) i p a h in (e.type, inl e.laid)
 
-pub start_in : (s : Sheet) (op : ChainOp) (t : ℕ) (stride : Stride) (l : TypeLayout) → start_layout s.setting (answer_in s) op t stride ≡ ok l → IsLayoutIn s l
+pub start_in : (s : Sheet) (op : ChainOp) (t : ℕ) (l : TypeLayout) → start_layout s.setting (answer_in s) op t ≡ ok l → IsLayoutIn s l
 unfolding start_layout
-start_in s AccessChain t stride l h = (t, inl h)
-start_in s InBoundsAccessChain t stride l h = (t, inl h)
-start_in s PtrAccessChain t stride l h = (t, inr (stride, h))
-start_in s InBoundsPtrAccessChain t stride l h = (t, inr (stride, h))
+start_in s AccessChain t l h = (t, inl h)
+start_in s InBoundsAccessChain t l h = (t, inl h)
+start_in s PtrAccessChain t l h = (t, inr h)
+start_in s InBoundsPtrAccessChain t l h = (t, inr h)

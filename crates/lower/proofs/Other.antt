@@ -7,8 +7,8 @@ use mathlib.Core.Option.{Option, none, some}
 use native.Mathlib.Omega.{arith}
 use lib.Dec.{eqb}
 use borrow.Author.Tests.{eqb-true, eqb-false, eq-eqb, ne_eqb}
-use Rattle.base_arith.specs.Refusals.{Result, ok, refused, ◌>>=◌, ◌>>◌, refuse◌unless◌}
-use Rattle.base_arith.proofs.Results.{never, value_is, went, passed, not_refused, no_some, some_is}
+use Rattle.arith.specs.Refusals.{Result, ok, refused, ◌>>=◌, ◌>>◌, refuse◌unless◌}
+use Rattle.arith.proofs.Results.{never, value_is, went, passed, not_refused, no_some, some_is}
 use Rattle.shapes.specs.declared.MemLayout.{MemLayout}
 use Rattle.shapes.specs.Shapes.{Components, Scalar, Elements, Fields, HandleLayout, Opaque, Buffer, MemTypeLayout, TypeLayout, Handle, HandleArray, Concrete, size_of, dyn_of, runtime_sized}
 use Rattle.sheet.specs.Sheet.{Sheet, pointee_in}

@@ -7,31 +7,28 @@ use mathlib.Core.Option.{Option, none, some}
 use native.Mathlib.Omega.{arith}
 use lib.IntN.{ℤ, pos}
 use lib.ListN.{length, length-append}
-use Rattle.base_arith.specs.Refusals.{Result, ok}
-use Rattle.base_arith.specs.Numbers.{is_i32, is_zero}
-use Rattle.base_arith.proofs.Results.{value_is, went, passed, not_refused}
-use Rattle.spirv.specs.declared.ChainOp.{ChainOp}
+use Rattle.arith.specs.Refusals.{Result, ok}
+use Rattle.arith.specs.Numbers.{is_i32, is_zero}
+use Rattle.arith.proofs.Results.{value_is, passed, not_refused}
 use Rattle.spirv.specs.declared.Index.{Index}
-use Rattle.spirv.specs.declared.Stride.{Stride}
-use Rattle.shapes.specs.declared.LayoutConfig.{LayoutConfig}
 use Rattle.shapes.specs.Shapes.{Components, Scalar, Elements, Fields, Opaque, Buffer, TypeLayout, Handle, HandleArray, Concrete}
-use Rattle.sheet.specs.Sheet.{Sheet, pointer_stride_in}
+use Rattle.sheet.specs.Sheet.{Sheet}
 use Rattle.layout.specs.Arrays.{Answer}
 use Rattle.layout.specs.Layouts.{answer_in}
+use Rattle.layout.specs.Statements.{IsLayoutIn}
+use Rattle.layout.proofs.Parts.{parts}
 use Rattle.lower.specs.declared.QPtrOp.{QPtrOp}
 use Rattle.lower.specs.declared.QPtrOp.TheVariants.{HandleArrayIndex, BufferData, Offset, DynOffset}
 use Rattle.lower.specs.declared.Pending.{Pending}
 use Rattle.lower.specs.declared.Pending.TheVariants.{Empty, Waiting}
 use Rattle.lower.specs.Steps.{flush, added, merged, Move, bound_of, lower_from}
-use Rattle.lower.specs.Chain.{in_memory, chain_by}
 use Rattle.lower.specs.Statements.{FitsStep, FitSteps, StepsFit}
 use Rattle.lower.proofs.Moves.{ByConstant, ToPart, Moved, first_of, none_left, begun}
-use Rattle.lower.proofs.Onward.{start_in}
-use Rattle.lower.proofs.InMemory.{OnlyMemory, only_memory, same_walk}
+use Rattle.lower.proofs.Onward.{part_onward, onward, start_in}
 
 -- ---- the bytes
 
-abbrev pub FitPending : Pending → Type 0
+abbrev FitPending : Pending → Type 0
 FitPending Empty = Unit {0}
 FitPending (Waiting z) = is_i32 z ≡ true
 
@@ -48,7 +45,7 @@ unfolding added
 fit_added Empty z q f h = subst FitPending (value_is h) f
 fit_added (Waiting y) z q f h = subst FitPending (value_is (passed _ _ h)) (not_refused _ _ _ h)
 
-pub fit_merged : (p : Pending) (z : ℤ) (q : Pending) → FitPending p → is_i32 z ≡ true → merged p z ≡ ok q → FitPending q
+fit_merged : (p : Pending) (z : ℤ) (q : Pending) → FitPending p → is_i32 z ≡ true → merged p z ≡ ok q → FitPending q
 unfolding merged
 fit_merged p z q a f h = by_test (is_zero z) h
   where
@@ -137,59 +134,43 @@ handle (Handle h) = 1
 handle (HandleArray h n) = 1
 handle (Concrete m) = 0
 
--- where parts of memory are memory: from a handle an index brings two steps at most and may lead to another handle or into memory; within memory it brings one
-module _ (part_of : ℕ → Answer) (only : OnlyMemory part_of) where
-  part_handle : (c : Components) (i : Index) (p : Pending) (a : Move) → ToPart part_of c i p a → handle a.layout ≡ 0
-  part_handle Scalar i p a h = absurd h
-  part_handle (Elements stride elem len) i p a h = ap handle (only elem a.layout h.laid).1
-  part_handle (Fields os ts) i p a h = ap handle (only h.field.type a.layout h.laid).1
+-- from a handle an index brings two steps at most and may lead to another handle or into memory; within memory it brings one
+move_count : (s : Sheet) (l : TypeLayout) → IsLayoutIn s l → (i : Index) (p : Pending) (a : Move) → FitPending p → Moved (answer_in s) l i p a
+    → length a.steps + waiting a.pending + handle a.layout ≤ suc (waiting p + handle l)
+move_count s (Handle Opaque) o i p a f h = absurd h
+move_count s (Handle (Buffer m)) o i p a f h =
+    let k = fit_move (answer_in s) (Handle (Buffer m)) i p a f h in
+    let e = part_onward s m m.components (parts s (Handle (Buffer m)) m o refl) i Empty h.inner h.by in
+    omega (arith, k.count, ap handle (h.layout ∙ e.is))
+move_count s (HandleArray k n) o i p a f h =
+    let c = put p (HandleArrayIndex i) a f tt h.0 h.1 in
+    omega (arith, c.count, ap handle h.2)
+move_count s (Concrete m) o i p a f h =
+    let k = fit_part (answer_in s) m.components i p a f h in
+    let e = part_onward s m m.components (parts s (Concrete m) m o refl) i p a h in
+    omega (arith, k.count, ap handle e.is)
 
-  move_count : (l : TypeLayout) (i : Index) (p : Pending) (a : Move) → FitPending p → Moved part_of l i p a
-      → length a.steps + waiting a.pending + handle a.layout ≤ suc (waiting p + handle l)
-  move_count (Handle Opaque) i p a f h = absurd h
-  move_count (Handle (Buffer m)) i p a f h =
-      let k = fit_move part_of (Handle (Buffer m)) i p a f h in
-      omega (arith, k.count, ap handle h.layout, part_handle m.components i Empty h.inner h.by)
-  move_count (HandleArray k n) i p a f h =
-      let c = put p (HandleArrayIndex i) a f tt h.0 h.1 in
-      omega (arith, c.count, ap handle h.2)
-  move_count (Concrete m) i p a f h =
-      let k = fit_part part_of m.components i p a f h in
-      omega (arith, k.count, part_handle m.components i p a h)
-
-  count : (is : List Index) (l : TypeLayout) (p : Pending) (steps : List QPtrOp) → FitPending p → lower_from part_of l p is ≡ ok steps → length steps ≤ length is + (waiting p + handle l)
-  count [] l p steps f h = omega (arith, ap length (none_left part_of l p steps h), length_flush p [])
-  count (i ∷ is) l p steps f h =
-      let a = first_of part_of l p i is steps h in
-      let k = fit_move part_of l i p a.to f a.by in
-      let m = move_count l i p a.to f a.by in
-      let r = count is a.to.layout a.to.pending a.rest k.pending a.onward in
-      omega (arith, ap length a.joined, length-append a.to.steps a.rest)
-
-  one : (l : TypeLayout) → handle l ≤ 1
-  one (Handle h) = omega arith
-  one (HandleArray h n) = omega arith
-  one (Concrete m) = omega arith
-
-  -- one step more than there are indices, at most
-  pub few_steps : (l : TypeLayout) (is : List Index) (steps : List QPtrOp) → lower_from part_of l Empty is ≡ ok steps → length steps ≤ suc (length is)
-  few_steps l is steps h = let c = count is l Empty steps tt h in omega (arith, c, one l)
+count : (s : Sheet) (is : List Index) (l : TypeLayout) → IsLayoutIn s l → (p : Pending) (steps : List QPtrOp) → FitPending p → lower_from (answer_in s) l p is ≡ ok steps
+    → length steps ≤ length is + (waiting p + handle l)
+count s [] l o p steps f h = omega (arith, ap length (none_left (answer_in s) l p steps h), length_flush p [])
+count s (i ∷ is) l o p steps f h =
+    let a = first_of (answer_in s) l p i is steps h in
+    let k = fit_move (answer_in s) l i p a.to f a.by in
+    let m = move_count s l o i p a.to f a.by in
+    let r = count s is a.to.layout (onward s l o i p a.to a.by) a.to.pending a.rest k.pending a.onward in
+    omega (arith, ap length a.joined, length-append a.to.steps a.rest)
 
 -- the bytes fit by whatever a type answers
 pub bytes_fit : (answer-of : ℕ → Answer) (l : TypeLayout) (is : List Index) (steps : List QPtrOp) → lower_from answer-of l Empty is ≡ ok steps → FitSteps steps
 bytes_fit answer-of l is steps h = fit_all answer-of is l Empty steps tt h
 
--- of a chain both, where parts of memory are memory
-pub chain_fits : (cfg : LayoutConfig) (pointee-of : ℕ → Result ℕ) (stride-of : ℕ → Stride) (answer-of part_of : ℕ → Answer) → OnlyMemory part_of → (op : ChainOp) (ptr : ℕ) (is : List Index) (steps : List QPtrOp)
-    → chain_by cfg pointee-of stride-of answer-of part_of op ptr is ≡ ok steps → FitSteps steps × (length steps ≤ suc (length is))
-unfolding chain_by
-chain_fits cfg pointee-of stride-of answer-of part_of only op ptr is steps h =
-    let t = went _ _ h in
-    let l = went _ _ t.rest in
-    (bytes_fit part_of l.value is steps l.rest, few_steps part_of only l.value is steps l.rest)
-
 pub steps_fit : StepsFit
 steps_fit s op ptr is steps h =
     let b = begun s op ptr is steps h in
-    let w = same_walk s is b.layout (start_in s op b.pointee (pointer_stride_in s ptr) b.layout b.laid) Empty in
-    (bytes_fit (answer_in s) b.layout is steps b.lowered, few_steps (λ t. in_memory (answer_in s t)) (only_memory (answer_in s)) b.layout is steps (w ∙ b.lowered))
+    let c = count s is b.layout (start_in s op b.pointee b.layout b.laid) Empty steps tt b.lowered in
+    (bytes_fit (answer_in s) b.layout is steps b.lowered, omega (arith, c, one b.layout))
+  where
+    one : (l : TypeLayout) → handle l ≤ 1
+    one (Handle h) = omega arith
+    one (HandleArray h n) = omega arith
+    one (Concrete m) = omega arith

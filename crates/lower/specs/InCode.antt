@@ -1,7 +1,7 @@
 -- Results as the code gives them: what waits, or that a sum is too far; a constant offset, or none.
 use Rattle.std.proofs.Math.Option.{Option, none, some}
 use Rattle.std.specs.Prelude.{ℤ}
-use Rattle.base_arith.specs.Refusals.{Result, ok, refused, step_overflow}
+use Rattle.arith.specs.Refusals.{Result, ok, refused}
 use Rattle.lower.specs.declared.Pending.{Pending}
 use Rattle.lower.specs.declared.Merged.{Merged}
 use Rattle.lower.specs.declared.Constant.{Constant}
@@ -13,9 +13,3 @@ as_merged (refused n) = Merged.Over
 unfoldable pub as_constant : Option ℤ → Constant
 as_constant (some z) = Constant.Bytes z
 as_constant none = Constant.Dynamic
-
--- ---- document 01's number for each case: 23 where the merged sum does not fit
-
-abbrev pub merged_in : Merged → Result Pending
-merged_in (Merged.Now p) = ok p
-merged_in Merged.Over = refused step_overflow

@@ -1,7 +1,7 @@
 -- Document 01, "The refusals", L: 18, layout, 25, 21, 26, 27; X: 18, layout. The arms for OpArrayLength and OpVariable.
 use Rattle.std.specs.Prelude.{ℕ, Bool, true, false, cond, eqb}
 use Rattle.std.proofs.Math.Option.{Option, none, some}
-use Rattle.base_arith.specs.Refusals.{Result, ok, refused, ◌>>=◌, ◌>>◌, refuse◌unless◌, no_buffer, field_outside, no_runtime_array, not_last}
+use Rattle.arith.specs.Refusals.{Result, ok, refused, ◌>>=◌, ◌>>◌, refuse◌unless◌, no_buffer, field_outside, no_runtime_array, not_last}
 use Rattle.shapes.specs.declared.MemLayout.{MemLayout}
 use Rattle.shapes.specs.Shapes.{Components, Scalar, Elements, Fields, Opaque, Buffer, MemTypeLayout, TypeLayout, Handle, HandleArray, Concrete, size_of, runtime_sized}
 use Rattle.sheet.specs.Sheet.{Sheet, pointee_in}

@@ -1,8 +1,8 @@
 -- Document 01, "Chain": what each index of a chain gives, by the layout that it meets.
 use Rattle.std.specs.Prelude.{ℕ, zero, suc, Bool, true, false, cond, ◌&&◌, ◌||◌, List, [], ◌∷◌, ◌++◌, leb, ltb, eqb, ℤ, pos, negsuc, ◌+ℤ◌, ◌*ℤ◌}
 use Rattle.std.proofs.Math.Option.{Option, none, some}
-use Rattle.base_arith.specs.Refusals.{Result, ok, refused, ◌>>=◌, ◌>>◌, refuse◌when◌, refuse◌unless◌, no_parts, unknown_field, field_outside, far_field, step_overflow}
-use Rattle.base_arith.specs.Numbers.{max_i32, signed, is_i32, is_zero}
+use Rattle.arith.specs.Refusals.{Result, ok, refused, ◌>>=◌, ◌>>◌, refuse◌when◌, refuse◌unless◌, no_parts, unknown_field, field_outside, far_field, step_overflow}
+use Rattle.arith.specs.Numbers.{max_i32, signed, is_i32, is_zero}
 use Rattle.spirv.specs.declared.Index.{Index}
 use Rattle.spirv.specs.declared.Index.TheVariants.{Known, Unknown}
 use Rattle.shapes.specs.Shapes.{Components, Scalar, Elements, Fields, Opaque, Buffer, TypeLayout, Handle, HandleArray, Concrete}

@@ -6,9 +6,9 @@ use mathlib.Core.List.{List, [], ◌∷◌}
 use mathlib.Core.Logic.{inl, inr}
 use mathlib.Core.Option.{Option, none, some}
 use lib.ListN.{get_elem?}
-use Rattle.base_arith.specs.Options.{◌>>=◌}
-use Rattle.base_arith.specs.Refusals.{Result, ok, refused}
-use Rattle.base_arith.proofs.Results.{never, passed, value_is}
+use Rattle.arith.specs.Options.{◌>>=◌}
+use Rattle.arith.specs.Refusals.{Result, ok, refused}
+use Rattle.arith.proofs.Results.{never, passed, value_is}
 use Rattle.spirv.specs.declared.Length.TheVariants.{Fixed, Specialization}
 use Rattle.spirv.specs.declared.SpvType.{SpvType}
 use Rattle.spirv.specs.declared.SpvType.TheVariants as spv
@@ -28,16 +28,16 @@ use Rattle.promise.specs.Walk.{Walked, type_no, runtime_array_of, Kind, handle_a
 pub layout_in : (s : Sheet) (w : Walked) (l : TypeLayout) → layout_at s w ≡ ok l → IsLayoutIn s l
 unfolding layout_at
 layout_in s (type_no t) l h = (t, inl h)
-layout_in s (runtime_array_of t stride) l h = (t, inr (stride, h))
+layout_in s (runtime_array_of t) l h = (t, inr h)
 
 -- offsets and strides are those of the layout there
 pub offset_is : (s : Sheet) (w : Walked) (m : MemTypeLayout) (os ms : List ℕ) → memory_of (layout_at s w) ≡ some m → m.components ≡ Fields os ms → (n : ℕ) → offset_at s w n ≡ get_elem? os n
 unfolding offset_at memory_at ◌>>=◌
 offset_is s w m os ms h e n = rw h (ap (λ (c : Components). get_elem? (offsets_of c) n) e)
 
-pub stride_is_lem : (s : Sheet) (w : Walked) (m : MemTypeLayout) (stride elem n : ℕ) → memory_of (layout_at s w) ≡ some m → m.components ≡ Elements stride elem n → stride_at s w ≡ some stride
+pub stride_is : (s : Sheet) (w : Walked) (m : MemTypeLayout) (stride elem n : ℕ) → memory_of (layout_at s w) ≡ some m → m.components ≡ Elements stride elem n → stride_at s w ≡ some stride
 unfolding stride_at memory_at ◌>>=◌
-stride_is_lem s w m stride elem n h e = rw h (ap stride_of_elements e)
+stride_is s w m stride elem n h e = rw h (ap stride_of_elements e)
 
 -- ---- a handle is what the sheet declares as one
 
@@ -71,7 +71,7 @@ module _ (s : Sheet) (below : ℕ → Answer) where
   handle_type d (spv.RuntimeArray elem stride) l g = no_handle _ l g
   handle_type d (spv.Struct block) l g =
       let i = struct_is s.setting below block d.members d.decorations l g in block_handle block i.contents ∙ ap is_handle_layout i.is
-  handle_type d (spv.Pointer class pointee stride) l g = ap is_handle_layout (value_is g)
+  handle_type d (spv.Pointer class pointee) l g = ap is_handle_layout (value_is g)
   handle_type d spv.Opaque l g = ap is_handle_layout (value_is g)
   handle_type d spv.Unsupported l g = absurd (never g)
 
@@ -99,13 +99,13 @@ module _ (s : Sheet) where
       ∙ ap (λ (b : Bool). cond b (handle_array elem) (array elem len)) (handle_type s i.below i.decl i.decl.type e (sym i.made ∙ h))
 
   module _ (below : ℕ → Answer) (kept : (u : ℕ) (m : TypeLayout) → below u ≡ ok m → answer_in s u ≡ ok m) where
-    by_elements : (p : ArrayParams) (l : TypeLayout) → array_layout s.setting below p ≡ ok l → Agrees (array_by (decl_in s p.elem) p.elem p.fixed_len_lem) l
+    by_elements : (p : ArrayParams) (l : TypeLayout) → array_layout s.setting below p ≡ ok l → Agrees (array_by (decl_in s p.elem) p.elem p.fixed_len) l
     by_elements p l g = by l (array_is s.setting below p l g)
       where
-        by : (l : TypeLayout) → ArrayIs s.setting below p l → Agrees (array_by (decl_in s p.elem) p.elem p.fixed_len_lem) l
+        by : (l : TypeLayout) → ArrayIs s.setting below p l → Agrees (array_by (decl_in s p.elem) p.elem p.fixed_len) l
         by (Handle h) i = absurd i
-        by (HandleArray h n) i = let a = kept _ _ i.0 in (p.elem, array_kind p.elem p.fixed_len_lem (Handle h) a, a)
-        by (Concrete m) i = rw i.parts (p.fixed_len_lem, array_kind p.elem p.fixed_len_lem _ (kept _ _ i.laid), refl)
+        by (HandleArray h n) i = let a = kept _ _ i.0 in (p.elem, array_kind p.elem p.fixed_len (Handle h) a, a)
+        by (Concrete m) i = rw i.parts (p.fixed_len, array_kind p.elem p.fixed_len _ (kept _ _ i.laid), refl)
 
     by_block : (block : Bool) (ms os : List ℕ) (m : MemTypeLayout) → m.components ≡ Fields os ms → Agrees (struct_by block ms) (block_or block m)
     by_block true ms os m e = (os, ms, e, refl)
@@ -124,7 +124,7 @@ module _ (s : Sheet) where
     by_type d (spv.Struct block) l g =
         let i = struct_is s.setting below block d.members d.decorations l g in
         subst (Agrees (struct_by block d.members)) i.is (by_block block d.members i.of.offsets i.contents i.of.parts)
-    by_type d (spv.Pointer class pointee stride) l g = subst (Agrees scalar) (value_is g) refl
+    by_type d (spv.Pointer class pointee) l g = subst (Agrees scalar) (value_is g) refl
     by_type d spv.Opaque l g = subst (Agrees opaque) (value_is g) refl
     by_type d spv.Unsupported l g = absurd (never g)
 
@@ -133,4 +133,4 @@ module _ (s : Sheet) where
   agrees (type_no t) l h =
       let i = laid_in s t l h in
       subst (λ (r : Result Decl). Agrees (kind_of_decl s r) l) (sym i.is_declared) (by_type i.below i.kept i.decl i.decl.type l (sym i.made ∙ h))
-  agrees (runtime_array_of t stride) l h = by_elements (answer_in s) (λ u m e. e) _ l h
+  agrees (runtime_array_of t) l h = by_elements (answer_in s) (λ u m e. e) _ l h

@@ -5,13 +5,11 @@ use mathlib.Core.Path.{◌≡◌, refl}
 use mathlib.Core.List.{List, [], ◌∷◌, map}
 use mathlib.Core.Option.{Option, none, some}
 use lib.IntN.{ℤ, pos, negsuc}
-use Rattle.base_arith.specs.Refusals.{Result, ok, refused}
+use Rattle.arith.specs.Refusals.{Result, ok, refused}
 use Rattle.spirv.specs.declared.ChainOp.{ChainOp}
 use Rattle.spirv.specs.declared.ChainOp.TheVariants.{AccessChain, PtrAccessChain}
 use Rattle.spirv.specs.declared.Index.{Index}
-use Rattle.spirv.specs.declared.Stride.TheVariants.{Decorated, Undecorated}
 use Rattle.spirv.specs.declared.Index.TheVariants.{Known, Unknown}
-use Rattle.sheet.specs.Sheet.{pointer_stride_in}
 use Rattle.sheet.proofs.OfText.{of}
 use Rattle.promise.specs.Meaning.{Values, WhichHandle, own, chosen, Spot}
 use Rattle.promise.specs.Walk.{Walked, type_no, runtime_array_of, Place, walk, start}
@@ -55,28 +53,21 @@ chain = Unknown 0 ∷ Known 1 ∷ Unknown 1 ∷ Known 2 ∷ []
 
 -- component 2 of vec4 −3 of member 1 of buffer 2: handle 2, byte 16 − 48 + 8, in the memory of type 3
 walks-back :
-    of buffers (λ s. walk s (values (negsuc 2)) chain (start s AccessChain 4 Undecorated))
+    of buffers (λ s. walk s (values (negsuc 2)) chain (start s AccessChain 4))
     ≡ ok (some record { type = type_no 0; spot = record { handle = chosen (pos 2); byte = some (negsuc 23) }; memory = some (type_no 3) })
 unfolding opened
 walks-back = refl
 
 -- 67 starts from the runtime array of the pointee: element −1 of it, then the field at 4
 array-of-structs :
-    of "G,1,1,1,1,1,1\nF,32\nS,0,2,0,0\nP,12,1\n" (λ s. walk s (values (pos 0)) (Known 4294967295 ∷ Known 1 ∷ []) (start s PtrAccessChain 1 Undecorated))
-    ≡ ok (some record { type = type_no 0; spot = record { handle = own; byte = some (negsuc 3) }; memory = some (runtime_array_of 1 Undecorated) })
+    of "G,1,1,1,1,1,1\nF,32\nS,0,2,0,0\nP,12,1\n" (λ s. walk s (values (pos 0)) (Known 4294967295 ∷ Known 1 ∷ []) (start s PtrAccessChain 1))
+    ≡ ok (some record { type = type_no 0; spot = record { handle = own; byte = some (negsuc 3) }; memory = some (runtime_array_of 1) })
 unfolding opened
 array-of-structs = refl
 
--- with the stride that the pointer carries: element −1 lies it back, whatever the pointee's size
-strided-structs :
-    of "G,1,1,1,1,1,1\nF,32\nS,0,2,0,0\nP,12,1,3\n" (λ s. walk s (values (pos 0)) (Known 4294967295 ∷ Known 1 ∷ []) (start s PtrAccessChain 1 (pointer_stride_in s 2)))
-    ≡ ok (some record { type = type_no 0; spot = record { handle = own; byte = some (pos 1) }; memory = some (runtime_array_of 1 (Decorated 3)) })
-unfolding opened
-strided-structs = refl
-
 -- no index: a buffer is not entered, and has no byte
 at-buffer :
-    of buffers (λ s. walk s (values (pos 0)) (Unknown 0 ∷ []) (start s AccessChain 4 Undecorated))
+    of buffers (λ s. walk s (values (pos 0)) (Unknown 0 ∷ []) (start s AccessChain 4))
     ≡ ok (some record { type = type_no 3; spot = record { handle = chosen (pos 2); byte = none }; memory = none })
 unfolding opened
 at-buffer = refl
@@ -84,7 +75,7 @@ at-buffer = refl
 -- field 7 of 2, field −1, an index into a scalar, into an opaque, into a type of a specialization length: no part there
 nowhere :
     of "G,1,1,1,1,1,1\nF,32\nS,0,2,0,0\nO\nA,0,s,-\n"
-    (λ s. map (λ (ask : ℕ × Index). walk s (values (pos 0)) (ask.1 ∷ []) (start s AccessChain ask.0 Undecorated))
+    (λ s. map (λ (ask : ℕ × Index). walk s (values (pos 0)) (ask.1 ∷ []) (start s AccessChain ask.0))
     ((1, Known 7) ∷ (1, Known 4294967295) ∷ (0, Known 0) ∷ (2, Known 0) ∷ (3, Known 0) ∷ (9, Known 0) ∷ []))
     ≡ ok (none ∷ none ∷ none ∷ none ∷ none ∷ none ∷ [])
 unfolding opened

@@ -7,12 +7,12 @@ use mathlib.Core.List.{List, [], ◌∷◌}
 use mathlib.Core.Option.{Option, none, some}
 use lib.IntN.{ℤ, pos, negsuc, ◌+ℤ◌, ◌*ℤ◌, pos-+ℤ-pos, pos-*ℤ-pos}
 use lib.ListN.{get_elem?}
-use Rattle.base_arith.specs.Options.{◌>>=◌}
-use Rattle.base_arith.specs.Refusals.{Result, ok, refused}
-use Rattle.base_arith.proofs.Results.{value_is, no_some, some_is, went_on}
+use Rattle.arith.specs.Options.{◌>>=◌}
+use Rattle.arith.specs.Refusals.{Result, ok, refused}
+use Rattle.arith.proofs.Results.{value_is, no_some, some_is, went_on}
 use Rattle.spirv.specs.declared.Index.{Index}
 use Rattle.shapes.specs.Shapes.{Components, Scalar, Elements, Fields, Opaque, Buffer, MemTypeLayout, TypeLayout, Handle, HandleArray, Concrete, size_of, dyn_of, contents_of, offsets_of}
-use Rattle.sheet.specs.Sheet.{Sheet, pointer_stride_in}
+use Rattle.sheet.specs.Sheet.{Sheet}
 use Rattle.layout.specs.Arrays.{length_or_zero}
 use Rattle.layout.specs.Layouts.{answer_in}
 use Rattle.layout.specs.Statements.{FieldsOf, ElementsOf, PartsOf}
@@ -22,7 +22,7 @@ use Rattle.lower.proofs.Moves.{begun}
 use Rattle.promise.specs.Meaning.{Values, value, Spot, plus, moved, entered}
 use Rattle.promise.specs.Walk.{Walked, type_no, Kind, handle_array, buffer, opaque, struct, array, scalar, unlaid, kind_of, layout_at, memory_of, memory_at, offset_at, stride_at, Place, to_part, enter, into_field, into_element, step_by, step, walk, start_type, at_memory, at_handle, start_by, start}
 use Rattle.promise.specs.Statements.{InLength, Spaced, InRangeBy, Then, InRange, InsideOf, Inside}
-use Rattle.promise.proofs.Agreement.{layout_in, offset_is, stride_is_lem, AgreesParts, Agrees, agrees}
+use Rattle.promise.proofs.Agreement.{layout_in, offset_is, stride_is, AgreesParts, Agrees, agrees}
 use Rattle.promise.proofs.SameByte.{start_laid}
 
 module _ (s : Sheet) where
@@ -103,7 +103,7 @@ module _ (s : Sheet) where
   unfolding into_element layout_at memory_at
   element_stands p q z stride elem n len k l e ln f inl sp h base =
       let st = went_on _ _ h in
-      let is = stride_is_lem s p.type k stride elem n (ap memory_of l) e in
+      let is = stride_is s p.type k stride elem n (ap memory_of l) e in
       let same : st.value ≡ stride = some_is (sym st.here ∙ is) in
       subst Stands (some_is st.rest) record {
         layout = Concrete f.part;
@@ -208,7 +208,7 @@ unfolding start
 inside s op ptr is steps h v walks w m x y d r =
     let b = begun s op ptr is steps h in
     let same : b.pointee ≡ walks.pointee = value_is (sym b.points ∙ walks.points) in
-    let at = start_type op walks.pointee (pointer_stride_in s ptr) in
-    let laid : layout_at s at ≡ ok b.layout = start_laid s op walks.pointee (pointer_stride_in s ptr) ∙ ap (λ (t : ℕ). start_layout s.setting (answer_in s) op t (pointer_stride_in s ptr)) (sym same) ∙ b.laid in
+    let at = start_type op walks.pointee in
+    let laid : layout_at s at ≡ ok b.layout = start_laid s op walks.pointee ∙ ap (start_layout s.setting (answer_in s) op) (sym same) ∙ b.laid in
     let st = all_stand s v is (start_by (kind_of s at) at) walks.reached (start_stands s at b.layout laid (agrees s at b.layout laid)) r walks.walked in
     (st.lies w m x y d).inside

@@ -6,9 +6,9 @@ use mathlib.Core.List.{List, [], ◌∷◌}
 use mathlib.Core.Option.{Option, none, some}
 use native.Mathlib.Omega.{arith}
 use lib.IntN.{ℤ, pos, negsuc}
-use Rattle.base_arith.specs.Refusals.{Result, ok, refused}
-use Rattle.base_arith.proofs.Results.{value_is, some_is}
-use Rattle.base_decimal.specs.Text.{bytes}
+use Rattle.arith.specs.Refusals.{Result, ok, refused}
+use Rattle.arith.proofs.Results.{value_is, some_is}
+use Rattle.decimal.specs.Text.{bytes}
 use Rattle.spirv.specs.declared.ChainOp.TheVariants.{AccessChain}
 use Rattle.spirv.specs.declared.Index.{Index}
 use Rattle.spirv.specs.declared.Index.TheVariants.{Known, Unknown}
@@ -49,7 +49,7 @@ buffers = record {
         decorations = record { member = 0; decoration = decoration.Offset 0 } ∷ record { member = 1; decoration = decoration.Offset 16 } ∷ [];
       }
       ∷ plain (spv.Array 3 (Fixed 5) Undecorated)
-      ∷ plain (spv.Pointer 12 4 Undecorated)
+      ∷ plain (spv.Pointer 12 4)
       ∷ [];
   questions = [];
 }
@@ -83,7 +83,7 @@ unfolding opened
 same_there =
     let same = same_byte buffers AccessChain 5 chain steps accepted back in
     let pointee : 4 ≡ same.by_walk.pointee = value_is same.by_walk.points in
-    sym same.by_steps ∙ ap (λ (t : ℕ). run back steps (start buffers AccessChain t Undecorated).spot) (sym pointee)
+    sym same.by_steps ∙ ap (λ (t : ℕ). run back steps (start buffers AccessChain t).spot) (sym pointee)
 
 -- ---- inside: vec4 3 is in range, so that its component lies inside the 144 bytes of the buffer
 
@@ -95,7 +95,7 @@ walks : Walks buffers AccessChain 5 chain forth
 unfolding opened
 walks = record { pointee = 4; points = refl; reached = _; walked = refl }
 
-in_range : InRange buffers forth chain (start buffers AccessChain 4 Undecorated)
+in_range : InRange buffers forth chain (start buffers AccessChain 4)
 unfolding opened
 in_range = (
   tt,

@@ -7,17 +7,16 @@ use mathlib.Core.Option.{Option, none, some}
 use lib.IntN.{ℤ, pos, negsuc, ◌+ℤ◌, ◌*ℤ◌, +ℤ_assoc, +ℤ_idr}
 use lib.ListN.{get_elem?}
 use borrow.Author.Tests.{eqb-true}
-use Rattle.base_arith.specs.Options.{◌>>=◌}
-use Rattle.base_arith.specs.Refusals.{Result, ok, refused}
-use Rattle.base_arith.specs.Numbers.{signed, is_zero}
-use Rattle.base_arith.proofs.Results.{passed, value_is}
+use Rattle.arith.specs.Options.{◌>>=◌}
+use Rattle.arith.specs.Refusals.{Result, ok, refused}
+use Rattle.arith.specs.Numbers.{signed, is_zero}
+use Rattle.arith.proofs.Results.{passed, value_is}
 use Rattle.spirv.specs.declared.Index.{Index}
 use Rattle.spirv.specs.declared.Index.TheVariants.{Known, Unknown}
 use Rattle.spirv.specs.declared.ChainOp.{ChainOp}
 use Rattle.spirv.specs.declared.ChainOp.TheVariants.{AccessChain, InBoundsAccessChain, PtrAccessChain, InBoundsPtrAccessChain}
 use Rattle.shapes.specs.Shapes.{Components, Scalar, Elements, Fields, Opaque, Buffer, MemTypeLayout, TypeLayout, Handle, HandleArray, Concrete}
-use Rattle.spirv.specs.declared.Stride.{Stride}
-use Rattle.sheet.specs.Sheet.{Sheet, pointer_stride_in}
+use Rattle.sheet.specs.Sheet.{Sheet}
 use Rattle.layout.specs.Arrays.{Answer}
 use Rattle.layout.specs.Layouts.{answer_in}
 use Rattle.lower.specs.declared.QPtrOp.{QPtrOp}
@@ -30,7 +29,7 @@ use Rattle.lower.proofs.Moves.{ToField, ToElement, ByConstant, ToPart, Moved, fi
 use Rattle.promise.specs.Meaning.{Values, value, Spot, plus, moved, entered, picked, run}
 use Rattle.promise.specs.Walk.{Walked, type_no, runtime_array_of, Kind, handle_array, buffer, opaque, struct, array, scalar, unlaid, kind_of, layout_at, memory_of, offset_at, stride_at, Place, to_part, enter, into_field, into_element, step_by, step, walk, start_type, start_by, start}
 use Rattle.promise.specs.Statements.{Walks, Same, SameByte}
-use Rattle.promise.proofs.Agreement.{offset_is, stride_is_lem, AgreesParts, Agrees, agrees}
+use Rattle.promise.proofs.Agreement.{offset_is, stride_is, AgreesParts, Agrees, agrees}
 
 -- ---- the waiting offset
 
@@ -95,11 +94,11 @@ module _ (s : Sheet) (v : Values) where
       (ap (λ (x : Spot). some (place (type_no f.field.type) x μ)) (ap (λ (x : Spot). moved x (pos f.field.offset)) e ∙ sym (merged_is p _ _ f.added σ)))))))
 
   -- into an element
-  by_constant : (stride bound : ℕ) (i : Index) (p : Pending) (a : Move) (c : Option ℤ) → ByConstant (answer_in s) stride bound i p a c → (σ : Spot)
+  by_constant_lem : (stride bound : ℕ) (i : Index) (p : Pending) (a : Move) (c : Option ℤ) → ByConstant (answer_in s) stride bound i p a c → (σ : Spot)
       → moved (after σ p) (pos stride *ℤ value v i) ≡ after (run v a.steps σ) a.pending
-  by_constant stride bound i p a none b σ =
+  by_constant_lem stride bound i p a none b σ =
       sym (ap (λ (x : List QPtrOp). after (run v x σ) a.pending) b.0 ∙ ap (after (run v (flush p (DynOffset stride bound i ∷ [])) σ)) b.1 ∙ run_flush v p (DynOffset stride bound i ∷ []) σ)
-  by_constant stride bound i p a (some z) b σ =
+  by_constant_lem stride bound i p a (some z) b σ =
       let is : pos stride *ℤ value v i ≡ z = ap (λ (x : Index). pos stride *ℤ value v x) b.0.known ∙ sym b.0.is in
       ap (moved (after σ p)) is ∙ sym (merged_is p z a.pending b.1 σ) ∙ ap (λ (x : List QPtrOp). after (run v x σ) a.pending) (sym b.2)
 
@@ -107,7 +106,7 @@ module _ (s : Sheet) (v : Values) where
       → (σ : Spot) (μ : Option Walked) → into_element s elem (place w (after σ p) μ) (value v i) ≡ some (place (type_no elem) (after (run v a.steps σ) a.pending) μ)
   unfolding into_element ◌>>=◌
   into_element_lem w stride elem len st i p a e σ μ =
-      rw st (ap (λ (x : Spot). some (place (type_no elem) x μ)) (by_constant stride (bound_of len) i p a e.constant e.by σ))
+      rw st (ap (λ (x : Spot). some (place (type_no elem) x μ)) (by_constant_lem stride (bound_of len) i p a e.constant e.by σ))
 
   to_part_lem : (w : Walked) (m : MemTypeLayout) → memory_of (layout_at s w) ≡ some m → (c : Components) → m.components ≡ c → AgreesParts s (kind_of s w) c
       → (i : Index) (p : Pending) (a : Move) → ToPart (answer_in s) c i p a → (σ : Spot) (μ : Option Walked) → Leads w p i σ μ a
@@ -117,7 +116,7 @@ module _ (s : Sheet) (v : Values) where
     to = elem;
     laid = t.laid;
     mem = μ;
-    stepped = rw g.1 (into_element_lem w stride elem n (stride_is_lem s w m stride elem n h e) i p a t σ μ);
+    stepped = rw g.1 (into_element_lem w stride elem n (stride_is s w m stride elem n h e) i p a t σ μ);
   }
   to_part_lem w m h (Fields os ms) e g i p a t σ μ = record {
     to = t.field.type;
@@ -179,30 +178,30 @@ module _ (s : Sheet) (v : Values) where
 
 -- ---- from the start
 
-pub start_laid : (s : Sheet) (op : ChainOp) (t : ℕ) (stride : Stride) → layout_at s (start_type op t stride) ≡ start_layout s.setting (answer_in s) op t stride
+pub start_laid : (s : Sheet) (op : ChainOp) (t : ℕ) → layout_at s (start_type op t) ≡ start_layout s.setting (answer_in s) op t
 unfolding layout_at start_type start_layout
-start_laid s AccessChain t stride = refl
-start_laid s InBoundsAccessChain t stride = refl
-start_laid s PtrAccessChain t stride = refl
-start_laid s InBoundsPtrAccessChain t stride = refl
+start_laid s AccessChain t = refl
+start_laid s InBoundsAccessChain t = refl
+start_laid s PtrAccessChain t = refl
+start_laid s InBoundsPtrAccessChain t = refl
 
-pub start_place : (k : Kind) (w : Walked) → place w (start_by k w).spot (start_by k w).memory ≡ start_by k w
-start_place (handle_array elem) w = refl
-start_place (buffer ms) w = refl
-start_place opaque w = refl
-start_place (struct ms) w = refl
-start_place (array elem len) w = refl
-start_place scalar w = refl
-start_place unlaid w = refl
+pub start_place_lem : (k : Kind) (w : Walked) → place w (start_by k w).spot (start_by k w).memory ≡ start_by k w
+start_place_lem (handle_array elem) w = refl
+start_place_lem (buffer ms) w = refl
+start_place_lem opaque w = refl
+start_place_lem (struct ms) w = refl
+start_place_lem (array elem len) w = refl
+start_place_lem scalar w = refl
+start_place_lem unlaid w = refl
 
 pub same_byte : SameByte
 unfolding start
 same_byte s op ptr is steps h v =
     let b = begun s op ptr is steps h in
-    let w = start_type op b.pointee (pointer_stride_in s ptr) in
+    let w = start_type op b.pointee in
     let from = start_by (kind_of s w) w in
-    let r = all_lead s v is w b.layout (start_laid s op b.pointee (pointer_stride_in s ptr) ∙ b.laid) Empty steps b.lowered from.spot from.memory in
+    let r = all_lead s v is w b.layout (start_laid s op b.pointee ∙ b.laid) Empty steps b.lowered from.spot from.memory in
     record {
-      by_walk = record { pointee = b.pointee; points = b.points; reached = r.reached; walked = ap (walk s v is) (sym (start_place (kind_of s w) w)) ∙ r.walked };
+      by_walk = record { pointee = b.pointee; points = b.points; reached = r.reached; walked = ap (walk s v is) (sym (start_place_lem (kind_of s w) w)) ∙ r.walked };
       by_steps = r.same;
     }

@@ -6,10 +6,10 @@ use mathlib.Core.List.{List, [], ◌∷◌}
 use mathlib.Core.Option.{Option, none, some}
 use native.Mathlib.Omega.{arith}
 use lib.Dec.{leb}
-use Rattle.base_arith.specs.Refusals.{Result, ok, refused, misread}
-use Rattle.base_arith.specs.Numbers.{round_up}
-use Rattle.base_arith.proofs.Results.{never, passed, not_refused, value_is, no_some, some_is, let_through}
-use Rattle.base_arith.proofs.Powers.{Pow2, pow_one, pow_round, pow_max}
+use Rattle.arith.specs.Refusals.{Result, ok, refused, misread}
+use Rattle.arith.specs.Numbers.{round_up}
+use Rattle.arith.proofs.Results.{never, passed, not_refused, value_is, no_some, some_is, let_through}
+use Rattle.arith.proofs.Powers.{Pow2, pow_one, pow_round, pow_max}
 use Rattle.spirv.specs.declared.Length.TheVariants.{Fixed, Specialization}
 use Rattle.spirv.specs.declared.Stride.TheVariants.{Undecorated}
 use Rattle.spirv.specs.declared.SpvType.{SpvType}
@@ -262,7 +262,7 @@ module _
       let i = struct_is cfg below block d.members d.decorations l g in
       subst (λ (x : TypeLayout). Right cfg k m × HandleIsStruct x k) i.is
       (of_struct block d.members i.contents i.of (vk_members cov d.members) refl k m e (ap shown_memory i.is ∙ c))
-  of_type d (spv.Pointer class pointee stride) k l m e g c = absurd (no_some e)
+  of_type d (spv.Pointer class pointee) k l m e g c = absurd (no_some e)
   of_type d spv.Opaque k l m e g c = absurd (no_some e)
   of_type d spv.Unsupported k l m e g c = absurd (no_some e)
 

@@ -1,11 +1,11 @@
 -- Document 01, "The typed walk", and the third demand: what is promised of chains, as statements. (That no two neighbours are both constant offsets is lower's NoNeighbours.)
 use Rattle.std.specs.Prelude.{ℕ, ◌+◌, ◌≤◌, ◌<◌, ◌≡◌, List, [], ◌∷◌, ℤ, pos}
 use Rattle.std.proofs.Math.Option.{Option, none, some}
-use Rattle.base_arith.specs.Refusals.{Result, ok, refused}
+use Rattle.arith.specs.Refusals.{Result, ok, refused}
 use Rattle.spirv.specs.declared.ChainOp.{ChainOp}
 use Rattle.spirv.specs.declared.Index.{Index}
 use Rattle.shapes.specs.Shapes.{MemTypeLayout, Concrete, size_of, dyn_of}
-use Rattle.sheet.specs.Sheet.{Sheet, pointee_in, pointer_stride_in}
+use Rattle.sheet.specs.Sheet.{Sheet, pointee_in}
 use Rattle.lower.specs.declared.QPtrOp.{QPtrOp}
 use Rattle.lower.specs.Statements.{Accepted}
 use Rattle.promise.specs.Meaning.{Values, value, run}
@@ -16,13 +16,13 @@ pub record Walks (s : Sheet) (op : ChainOp) (ptr : ℕ) (is : List Index) (v : V
   pub pointee : ℕ
   pub points : pointee_in s ptr ≡ ok pointee
   pub reached : Place
-  pub walked : walk s v is (start s op pointee (pointer_stride_in s ptr)) ≡ some reached
+  pub walked : walk s v is (start s op pointee) ≡ some reached
 
 -- ---- same byte: for every value of the unknowns the walk is defined, and steps from the same start end at the same handle and byte
 
 pub record Same (s : Sheet) (op : ChainOp) (ptr : ℕ) (is : List Index) (steps : List QPtrOp) (v : Values) : Type 0 where
   pub by_walk : Walks s op ptr is v
-  pub by_steps : run v steps (start s op by_walk.pointee (pointer_stride_in s ptr)).spot ≡ by_walk.reached.spot
+  pub by_steps : run v steps (start s op by_walk.pointee).spot ≡ by_walk.reached.spot
 
 abbrev pub SameByte : Type 0
 SameByte =
@@ -80,5 +80,5 @@ Inside =
     (s : Sheet) (op : ChainOp) (ptr : ℕ) (is : List Index) (steps : List QPtrOp) → Accepted s op ptr is steps
     → (v : Values) (walks : Walks s op ptr is v) (w : Walked) (m : MemTypeLayout)
     → walks.reached.memory ≡ some w → memory_at s w ≡ some m → dyn_of m ≡ 0
-    → InRange s v is (start s op walks.pointee (pointer_stride_in s ptr))
+    → InRange s v is (start s op walks.pointee)
     → InsideOf s walks.reached m

@@ -1,7 +1,7 @@
 -- The Vulkan specification, "Offset and Stride Assignment", which document 01 lets decide alignments: scalar, base and extended alignment.
 use Rattle.std.specs.Prelude.{ℕ, ◌*◌, ◌/◌, max, Bool, true, false, cond, ◌&&◌, List, [], ◌∷◌, leb, get_or}
 use Rattle.std.proofs.Math.Option.{Option, none, some}
-use Rattle.base_arith.specs.Numbers.{round_up}
+use Rattle.arith.specs.Numbers.{round_up}
 use Rattle.spirv.specs.declared.SpvType.{SpvType}
 use Rattle.spirv.specs.declared.SpvType.TheVariants as spv
 use Rattle.spirv.specs.Decl.{Decl, filled}
@@ -111,7 +111,7 @@ vk_type below ms (spv.Matrix column len) = vk_matrix (below column)
 vk_type below ms (spv.Array elem len stride) = vk_array (below elem)
 vk_type below ms (spv.RuntimeArray elem stride) = vk_array (below elem)
 vk_type below ms (spv.Struct block) = vk_struct (vk_members below ms)
-vk_type below ms (spv.Pointer class pointee stride) = none
+vk_type below ms (spv.Pointer class pointee) = none
 vk_type below ms spv.Opaque = none
 vk_type below ms spv.Unsupported = none
 

@@ -2,10 +2,9 @@
 use Rattle.std.specs.Prelude.{ℕ, Bool, true, false, cond, List, [], ◌∷◌, ℤ, pos, negsuc, ◌*ℤ◌}
 use Rattle.std.proofs.Math.Option.{Option, none, some}
 use Rattle.std.proofs.Math.ListN.{get_elem?}
-use Rattle.base_arith.specs.Options.{◌>>=◌}
-use Rattle.base_arith.specs.Refusals.{Result, ok, refused}
+use Rattle.arith.specs.Options.{◌>>=◌}
+use Rattle.arith.specs.Refusals.{Result, ok, refused}
 use Rattle.spirv.specs.declared.Length.TheVariants.{Fixed, Specialization}
-use Rattle.spirv.specs.declared.Stride.{Stride}
 use Rattle.spirv.specs.declared.SpvType.{SpvType}
 use Rattle.spirv.specs.declared.SpvType.TheVariants as spv
 use Rattle.spirv.specs.declared.ChainOp.{ChainOp}
@@ -20,10 +19,10 @@ use Rattle.promise.specs.Meaning.{Values, value, Spot, own, moved, entered, pick
 
 -- ---- what the sheet declares
 
--- a type that the walk is at: one of the sheet, or the runtime array of one, from which 67 and 70 start, undecorated or of the pointer's stride (document 02, b)
+-- a type that the walk is at: one of the sheet, or the undecorated runtime array of one, from which 67 and 70 start
 pub data Walked : Type 0 where
   type_no : ℕ → Walked
-  runtime_array_of : (pointee : ℕ) (stride : Stride) → Walked
+  runtime_array_of : (pointee : ℕ) → Walked
 
 -- what stands there
 pub data Kind : Type 0 where
@@ -46,7 +45,7 @@ is_handle (spv.Matrix column len) = false
 is_handle (spv.Array elem len stride) = false
 is_handle (spv.RuntimeArray elem stride) = false
 is_handle (spv.Struct block) = block
-is_handle (spv.Pointer class pointee stride) = false
+is_handle (spv.Pointer class pointee) = false
 is_handle spv.Opaque = true
 is_handle spv.Unsupported = false
 
@@ -69,7 +68,7 @@ kind_of_type s ms (spv.Array elem (Fixed len) stride) = array_by (decl_in s elem
 kind_of_type s ms (spv.Array elem Specialization stride) = unlaid
 kind_of_type s ms (spv.RuntimeArray elem stride) = array_by (decl_in s elem) elem none
 kind_of_type s ms (spv.Struct block) = struct_by block ms
-kind_of_type s ms (spv.Pointer class pointee stride) = scalar
+kind_of_type s ms (spv.Pointer class pointee) = scalar
 kind_of_type s ms spv.Opaque = opaque
 kind_of_type s ms spv.Unsupported = unlaid
 
@@ -79,13 +78,13 @@ kind_of_decl s (ok d) = kind_of_type s d.members d.type
 
 unfoldable pub kind_of : Sheet → Walked → Kind
 kind_of s (type_no t) = kind_of_decl s (decl_in s t)
-kind_of s (runtime_array_of t stride) = array_by (decl_in s t) t none
+kind_of s (runtime_array_of t) = array_by (decl_in s t) t none
 
 -- ---- by the layout rules
 
 unfoldable pub layout_at : Sheet → Walked → Answer
 layout_at s (type_no t) = answer_in s t
-layout_at s (runtime_array_of t stride) = runtime_array_in s t stride
+layout_at s (runtime_array_of t) = runtime_array_in s t
 
 -- the memory of a type, or a buffer's contents; none where the rules refuse it
 abbrev pub memory_of : Answer → Option MemTypeLayout
@@ -163,11 +162,11 @@ walk s v (i ∷ is) p = do
 -- ---- its start
 
 -- the pointee, or its runtime array for 67 and 70
-unfoldable pub start_type : ChainOp → (pointee : ℕ) → Stride → Walked
-start_type AccessChain t stride = type_no t
-start_type InBoundsAccessChain t stride = type_no t
-start_type PtrAccessChain t stride = runtime_array_of t stride
-start_type InBoundsPtrAccessChain t stride = runtime_array_of t stride
+unfoldable pub start_type : ChainOp → (pointee : ℕ) → Walked
+start_type AccessChain t = type_no t
+start_type InBoundsAccessChain t = type_no t
+start_type PtrAccessChain t = runtime_array_of t
+start_type InBoundsPtrAccessChain t = runtime_array_of t
 
 -- the handle is the pointer's own; memory starts at byte 0, and a handle has no byte
 abbrev pub at_memory : Walked → Place
@@ -185,5 +184,5 @@ start_by (array elem len) w = at_memory w
 start_by scalar w = at_memory w
 start_by unlaid w = at_handle w
 
-unfoldable pub start : Sheet → ChainOp → (pointee : ℕ) → Stride → Place
-start s op t stride = start_by (kind_of s (start_type op t stride)) (start_type op t stride)
+unfoldable pub start : Sheet → ChainOp → (pointee : ℕ) → Place
+start s op t = start_by (kind_of s (start_type op t)) (start_type op t)

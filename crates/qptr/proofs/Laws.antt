@@ -1,30 +1,25 @@
 -- Laws of what C gets. Assumes nothing.
-use Prim.Native.Nat.{ℕ, ◌-◌, ◌≤◌, ◌<◌}
+use Prim.Native.Nat.{ℕ, ◌-◌, ◌≤◌, ◌<◌, min}
 use native.Mathlib.Omega.{arith}
 use mathlib.Core.Path.{◌≡◌, refl, sym, ap, ◌∙◌, subst}
 use mathlib.Core.List.{List}
 use lib.IntN.{ℤ}
 use lib.ListN.{length}
-use Rattle.base_arith.specs.Pairs.{both}
-use Rattle.base_arith.specs.Refusals.{Result, ok, refused}
-use Rattle.base_arith.proofs.Results.{went, passed, in_room_lem}
+use Rattle.arith.specs.Refusals.{Result, ok, refused}
+use Rattle.arith.proofs.Results.{went, passed, in_room_lem}
 use Rattle.spirv.specs.declared.ChainOp.{ChainOp}
 use Rattle.spirv.specs.declared.Index.{Index}
-use Rattle.sheet.proofs.Tables.{front}
-use Rattle.sheet_read.specs.declared.SheetAnswer.{SheetAnswer}
-use Rattle.layout.specs.Lookup.{Found, Holding, AtEnd, room_of}
-use Rattle.layout_lookup.specs.declared.Lookup.{Lookup}
-use Rattle.layout_lookup.specs.Found.{lookup_both, answered_in}
+use Rattle.reading.specs.declared.SheetAnswer.{SheetAnswer}
 use Rattle.lower.specs.declared.QPtrOp.{QPtrOp}
-use Rattle.lower_index.specs.declared.Walk.{Walk}
-use Rattle.lower_index.specs.Written.{walk_of}
-use Rattle.qptr_table.specs.Reads.{ReadsTable}
-use Rattle.qptr_chain.specs.Chains.{chain_at, chain_in, room_in, Lowered}
-use Rattle.base_text.specs.declared.Answer.{Answer}
-use Rattle.base_text.specs.Whole.{Whole, held, answered}
+use Rattle.moves.specs.declared.Walk.{Walk}
+use Rattle.moves.specs.Written.{walk_of}
+use Rattle.flat.specs.Reads.{ReadsTable}
+use Rattle.tabled.specs.Chains.{places, chain_at, chain_in, room_in, Lowered}
+use Rattle.text.specs.declared.Answer.{Answer}
+use Rattle.text.specs.Whole.{Whole, held, answered}
 use Rattle.qptr.specs.Answered.{code_of, Small, Answered}
-use Rattle.qptr.specs.OverTable.{sheet_code, walk_code, SmallWalk, TableRead, ChainLowered, Got, lookup_code, SmallLookup, found_code, found_words, held_found, GotFound}
-use Rattle.answer.specs.Output.{lay_output}
+use Rattle.qptr.specs.OverTable.{sheet_code, walk_code, SmallWalk, TableRead, ChainLowered, Got}
+use Rattle.answers.specs.Output.{lay_output}
 
 pub small : {result : Result (List ℕ)} {old new : List ℕ} {r : Answer} → length old < 9223372036854775808 → Whole result old r new → Small r
 unfolding answered
@@ -41,7 +36,7 @@ told w e = record { says = e ∙ ap code_of w.says; holds = w.holds }
 
 steps_in : (room : ℕ) (table : List ℕ) (o : ChainOp) (ptr : ℕ) (is : List Index) (steps : List QPtrOp) → chain_at room table o ptr is ≡ ok steps → length steps ≤ room
 unfolding chain_at
-steps_in room table o ptr is steps h = in_room_lem room length _ (passed _ _ (passed _ _ h))
+steps_in room table o ptr is steps h = let k = in_room_lem (min (places (length is)) room) length _ (passed _ _ (passed _ _ h)) in omega arith
 
 pub small_walk : (table : List ℕ) (op ptr : ℕ) (indices old : List ℕ) {new : List ℕ} {w : Walk} → length old < 9223372036854775808
     → Lowered (chain_in (room_in old) table op ptr indices) w old new → SmallWalk w
@@ -67,27 +62,3 @@ chain_lowered table op ptr indices old l e = record { says = e ∙ ap walk_code 
 
 pub got : {result : Result (List ℕ)} {old new : List ℕ} {a : Answer} {x : ℤ} → Whole result old a new → x ≡ code_of a → Got result x old new
 got w e = record { says = e ∙ ap code_of w.says; holds = w.holds }
-
--- ---- components
-
-module _ (result : Result Found) (old : List ℕ) {new : List ℕ} {l : Lookup} (h : both l new ≡ answered_in old result) where
-  pub small_lookup : length old < 9223372036854775808 → SmallLookup l
-  unfolding lookup_both
-  small_lookup k = subst SmallLookup (sym (ap (λ (p : Lookup × List ℕ). p.0) h)) (by (held_found (length old) result) refl)
-    where
-      by : (o : Result Found) → held_found (length old) result ≡ o → SmallLookup (lookup_both old o).0
-      by (ok (Holding ns)) i = let n = in_room_lem (length old) room_of result i in omega arith
-      by (ok AtEnd) i = tt
-      by (refused e) i = tt
-
-  pub got_found : {x : ℤ} → x ≡ lookup_code l → GotFound result x old new
-  unfolding lookup_both found_code found_words
-  got_found {x} e = by (held_found (length old) result) refl h
-    where
-      by : (o : Result Found) → held_found (length old) result ≡ o → both l new ≡ lookup_both old o → GotFound result x old new
-      by (ok (Holding ns)) i g = record {
-        says = rw i (e ∙ ap (λ (p : Lookup × List ℕ). lookup_code p.0) g);
-        holds = rw i (ap (λ (p : Lookup × List ℕ). p.1) g ∙ front old ns (in_room_lem (length old) room_of result i));
-      }
-      by (ok AtEnd) i g = record { says = rw i (e ∙ ap (λ (p : Lookup × List ℕ). lookup_code p.0) g); holds = rw i (ap (λ (p : Lookup × List ℕ). p.1) g) }
-      by (refused n) i g = record { says = rw i (e ∙ ap (λ (p : Lookup × List ℕ). lookup_code p.0) g); holds = rw i (ap (λ (p : Lookup × List ℕ). p.1) g) }

@@ -1,10 +1,10 @@
 -- What C gets for a sheet: the text of `lay`, all of it or nothing, and one number for how that went.
 use Rattle.std.specs.Prelude.{ℕ, ◌<◌, ◌≡◌, List, ℤ, pos, neg_ℤ, length}
-use Rattle.base_arith.specs.Refusals.{Result, ok}
-use Rattle.base_text.specs.declared.Answer.{Answer}
-use Rattle.base_text.specs.declared.Answer.TheVariants.{Bytes, Refused}
-use Rattle.base_text.specs.Whole.{over, held, written, answered}
-use Rattle.answer.specs.Output.{lay_output}
+use Rattle.arith.specs.Refusals.{Result, ok}
+use Rattle.text.specs.declared.Answer.{Answer}
+use Rattle.text.specs.declared.Answer.TheVariants.{Bytes, Refused}
+use Rattle.text.specs.Whole.{over, held, written, answered}
+use Rattle.answers.specs.Output.{lay_output}
 
 abbrev pub code_of : Answer → ℤ
 code_of (Bytes n) = pos n

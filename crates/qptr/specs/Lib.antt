@@ -1,5 +1,2 @@
 pub mod Answered
-pub mod EndToEnd
-pub mod Equal
 pub mod OverTable
-pub mod Told

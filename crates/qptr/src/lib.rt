@@ -1,17 +1,14 @@
 // The C functions: numbers and lent bytes for a host that links libqptr.a. A negative answer is minus the number of a refusal.
-pub mod equality;
 pub mod step_structs;
 
 ghost use Rattle.std.specs.Prelude.{◌≡◌};
 ghost use Rattle.qptr.specs.Answered.{code_of, Small, Answered};
-ghost use Rattle.qptr_questions.specs.Asked.{layout_for, found_for, length_for, variable_for};
-ghost use Rattle.qptr_captures.specs.Compared.{compared_for};
-ghost use Rattle.qptr.specs.OverTable.{sheet_code, walk_code, SmallWalk, TableRead, ChainLowered, Got, lookup_code, SmallLookup, GotFound};
+ghost use Rattle.asked.specs.Asked.{layout_for, found_for, length_for, variable_for};
+ghost use Rattle.qptr.specs.OverTable.{sheet_code, walk_code, SmallWalk, TableRead, ChainLowered, Got};
 
-use base_text::Answer;
-use layout_lookup::Lookup;
-use lower_index::Walk;
-use sheet_read::SheetAnswer;
+use moves::Walk;
+use reading::SheetAnswer;
+use text::Answer;
 
 // What C gets: a number of bytes, or minus the number of a refusal.
 fn code(a: Answer) -> i64
@@ -20,7 +17,7 @@ fn code(a: Answer) -> i64
 {
     match a {
         Answer::Bytes(n) => n as i64,
-        Answer::Refused(e) => qptr_wire::refusal(e),
+        Answer::Refused(e) => recorded::refusal(e),
     }
 }
 
@@ -29,7 +26,7 @@ fn code(a: Answer) -> i64
 pub extern "C" fn qptr_answer_sheet(sheet: &[u8], out: &mut [u8]) -> i64
     ensures { Answered sheet.now out.old result out.new }
 {
-    code(answer_sheet::answer_sheet(sheet, out))
+    code(whole::answer_sheet(sheet, out))
 }
 
 // ---- over a table
@@ -40,7 +37,7 @@ fn sheet_code(a: SheetAnswer) -> i64
 {
     match a {
         SheetAnswer::Types(n) => n as i64,
-        SheetAnswer::Refused(e) => qptr_wire::refusal(e),
+        SheetAnswer::Refused(e) => recorded::refusal(e),
     }
 }
 
@@ -51,31 +48,16 @@ fn walk_code(w: Walk) -> i64
 {
     match w {
         Walk::Steps(n) => n as i64,
-        Walk::Refused(e) => qptr_wire::refusal(e),
+        Walk::Refused(e) => recorded::refusal(e),
     }
 }
 
-// What C gets at the end of an array: no count is that large.
-const QPTR_END: i64 = 4294967296;
-
-// A number of components, the end of an array, or minus the number of a refusal.
-fn lookup_code(l: Lookup) -> i64
-    requires { SmallLookup l }
-    ensures { result ≡ lookup_code l }
-{
-    match l {
-        Lookup::Found(n) => n as i64,
-        Lookup::End => QPTR_END,
-        Lookup::Refused(e) => qptr_wire::refusal(e),
-    }
-}
-
-// Reads a sheet into a table of at least 7,431 words, and how many types it has; -1, -2, -3, or -24 where the table is shorter, and it is as it was.
+// Reads a sheet into a table of at least 7,175 words, and how many types it has; -1, -2, -3, or -24 where the table is shorter, and it is as it was.
 #[unsafe(no_mangle)]
 pub extern "C" fn qptr_read_sheet(sheet: &[u8], table: &mut [u32]) -> i64
     ensures { TableRead sheet.now result table.old table.new }
 {
-    sheet_code(qptr_table::read_table(sheet, table))
+    sheet_code(flat::read_table(sheet, table))
 }
 
 // The steps of a chain over a table, 20 bytes each, and how many; or minus the refusal, and the bytes as they were.
@@ -89,7 +71,7 @@ pub extern "C" fn qptr_lower_chain(
 ) -> i64
     ensures { ChainLowered table.now op ptr indices.now result steps.old steps.new }
 {
-    walk_code(qptr_chain::lower_chain(table, op, ptr, indices, steps))
+    walk_code(tabled::lower_chain(table, op, ptr, indices, steps))
 }
 
 // ---- the other questions over a table: words, all of them or none, and how many; or minus the refusal, and the list as it was
@@ -99,10 +81,10 @@ pub extern "C" fn qptr_lower_chain(
 pub extern "C" fn qptr_type_layout(table: &[u32], ty: u32, out: &mut [u32]) -> i64
     ensures { Got (layout_for table.now ty) result out.old out.new }
 {
-    code(qptr_questions::type_layout(table, ty, out))
+    code(asked::type_layout(table, ty, out))
 }
 
-// The components of a type that hold the bytes from start to end; 4294967296 and the list as it was at the very end of an array.
+// The components of a type that hold the bytes from start to end.
 #[unsafe(no_mangle)]
 pub extern "C" fn qptr_find_components(
     table: &[u32],
@@ -111,9 +93,9 @@ pub extern "C" fn qptr_find_components(
     end: u32,
     out: &mut [u32],
 ) -> i64
-    ensures { GotFound (found_for table.now ty start end) result out.old out.new }
+    ensures { Got (found_for table.now ty start end) result out.old out.new }
 {
-    lookup_code(qptr_questions::find_components(table, ty, start, end, out))
+    code(asked::find_components(table, ty, start, end, out))
 }
 
 // The offset and the stride of a buffer's runtime array.
@@ -121,7 +103,7 @@ pub extern "C" fn qptr_find_components(
 pub extern "C" fn qptr_array_length(table: &[u32], ptr: u32, member: u32, out: &mut [u32]) -> i64
     ensures { Got (length_for table.now ptr member) result out.old out.new }
 {
-    code(qptr_questions::array_length(table, ptr, member, out))
+    code(asked::array_length(table, ptr, member, out))
 }
 
 // The size, alignment and legacy alignment of a local variable; no words where it is not of a fixed size.
@@ -129,21 +111,5 @@ pub extern "C" fn qptr_array_length(table: &[u32], ptr: u32, member: u32, out: &
 pub extern "C" fn qptr_local_variable(table: &[u32], ptr: u32, out: &mut [u32]) -> i64
     ensures { Got (variable_for table.now ptr) result out.old out.new }
 {
-    code(qptr_questions::local_variable(table, ptr, out))
-}
-
-// ---- two captures of one frame
-
-// Compared on a type: 0, or 1 and the least event whose counts differ; how many events the first has; for each how many components hold it, and these, or 4294967295 alone at the end of an array.
-#[unsafe(no_mangle)]
-pub extern "C" fn qptr_compare_captures(
-    table: &[u32],
-    ty: u32,
-    first: &[u8],
-    second: &[u8],
-    out: &mut [u32],
-) -> i64
-    ensures { Got (compared_for table.now ty first.now second.now) result out.old out.new }
-{
-    code(qptr_captures::compare_captures(table, ty, first, second, out))
+    code(asked::local_variable(table, ptr, out))
 }

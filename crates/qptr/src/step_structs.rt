@@ -1,9 +1,9 @@
 // A chain's steps as structs, in a slice of them that C lends: proved by a walk of its MIR, by hand.
 ghost use Rattle.std.specs.Prelude.{length};
-ghost use Rattle.qptr_chain.specs.Chains.{chain_in};
-ghost use Rattle.qptr_step_structs.specs.Records.{Recorded};
+ghost use Rattle.tabled.specs.Chains.{chain_in};
+ghost use Rattle.recorded.specs.Records.{Recorded};
 
-use qptr_step_structs::QPtrChainStep;
+use recorded::QPtrChainStep;
 
 // The steps of a chain over a table, and how many; or minus the refusal, and the structs as they were.
 #[unsafe(no_mangle)]
@@ -16,5 +16,5 @@ pub extern "C" fn qptr_lower_chain_steps<'a, 's>(
 ) -> i64
     ensures { Recorded (chain_in (length steps.old) table.now op ptr indices.now) result steps.old steps.new }
 {
-    qptr_step_structs::lower_access_chain(steps, op, ptr, table, indices)
+    recorded::lower_access_chain(steps, op, ptr, table, indices)
 }

@@ -1,6 +1,6 @@
 -- An answer is known by what it says where spans stand for themselves. Assumes nothing.
 use mathlib.Core.Path.{◌≡◌, refl, sym, ap, ◌∙◌}
-use Rattle.base_arith.specs.Refusals.{Result}
+use Rattle.arith.specs.Refusals.{Result}
 use Rattle.shapes.specs.Shapes as def
 use Rattle.shapes.specs.Spans.{Reading, answer_by, itself, parts_by, held_parts, held_memory, memory_by, held, Says}
 use Rattle.shapes.specs.declared.Components.{Components}
@@ -17,7 +17,7 @@ held_parts_lem (Elements stride elem len) = refl
 held_parts_lem (Fields start count) = refl
 
 held_memory_lem : (m : MemTypeLayout) → held_memory (memory_by itself m) ≡ m
-held_memory_lem m = ap (λ (c : Components). record { mem = m.mem; data_end = m.data_end; components = c }) (held_parts_lem m.components)
+held_memory_lem m = ap (λ (c : Components). record { mem = m.mem; components = c }) (held_parts_lem m.components)
 
 pub held_again : (a : Answer) → held (answer_by itself a) ≡ a
 held_again (Refused n) = refl

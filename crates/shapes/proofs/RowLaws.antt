@@ -1,7 +1,7 @@
 -- Laws of a table's rows: one that is written is read, the others stay; and a table of rows is looked up as their list.
 -- Assumes nothing.
 use Prim.Native.Nat.{ℕ, zero, suc, ◌+◌, ◌*◌, ◌<◌, ◌≤◌}
-use mathlib.Core.Path.{◌≡◌, refl, sym, ap, ◌∙◌}
+use mathlib.Core.Path.{◌≡◌, refl, sym, ◌∙◌}
 use mathlib.Core.Bool.{Bool, true, false, cond}
 use mathlib.Core.List.{List, [], ◌∷◌, ◌++◌, append_assoc, append-nil}
 use native.Mathlib.Omega.{arith}
@@ -9,22 +9,22 @@ use lib.Dec.{ltb}
 use lib.ListN.{length, get_or, drop, length-append, length-drop, get_or-eq_default}
 use lib.Seq.{sets, sets-eq, take_at, drop_at, drop-drop}
 use borrow.Author.Tests.{ltb-true, ltb-false}
-use Rattle.base_arith.specs.Refusals.{misread}
-use Rattle.shapes.specs.Words.{row_words, encode, kept}
+use Rattle.arith.specs.Refusals.{misread}
+use Rattle.shapes.specs.Words.{encode}
 use Rattle.shapes.specs.Rows.{row_at, answer_at, flat}
 use Rattle.shapes.specs.declared.Answer.{Answer}
 use Rattle.shapes.specs.declared.Answer.TheVariants.{Refused}
 use Rattle.spirv.proofs.Rows.{part_stored}
-use Rattle.shapes.proofs.ReadsBack.{encode_length, kept_misread, decode_encode}
+use Rattle.shapes.proofs.ReadsBack.{encode_length, decode_encode}
 
 -- a row that is written is read
-pub row_written : (table : List ℕ) (i : ℕ) (a : Answer) → row_words * i + row_words ≤ length table → row_at (sets table (row_words * i) (encode a)) i ≡ kept a
+pub row_written : (table : List ℕ) (i : ℕ) (a : Answer) → 10 * i + 10 ≤ length table → row_at (sets table (10 * i) (encode a)) i ≡ a
 unfolding row_at
-row_written table i a h = rw (part_stored table (row_words * i) row_words (encode a) (encode_length a) h) (decode_encode a)
+row_written table i a h = rw (part_stored table (10 * i) 10 (encode a) (encode_length a) h) (decode_encode a)
 
 -- ---- a table of rows
 
-pub flat_length : (rs : List Answer) → length (flat rs) ≡ row_words * length rs
+pub flat_length : (rs : List Answer) → length (flat rs) ≡ 10 * length rs
 unfolding flat
 flat_length [] = refl
 flat_length (a ∷ rs) = rw (length-append (encode a) (flat rs), encode_length a, flat_length rs) (omega arith)
@@ -35,32 +35,32 @@ flat_snoc [] a = append-nil (encode a)
 flat_snoc (r ∷ rs) a = rw (flat_snoc rs a) (sym (append_assoc (encode r) (flat rs) (encode a)))
 
 -- the next row, behind those that are there
-pub next_row : (rs : List Answer) (table : List ℕ) (a : Answer) → row_words * length rs + row_words ≤ length table
-    → sets (flat rs ++ drop (row_words * length rs) table) (row_words * length rs) (encode a) ≡ flat (rs ++ (a ∷ [])) ++ drop (row_words * (length rs + 1)) table
+pub next_row : (rs : List Answer) (table : List ℕ) (a : Answer) → 10 * length rs + 10 ≤ length table
+    → sets (flat rs ++ drop (10 * length rs) table) (10 * length rs) (encode a) ≡ flat (rs ++ (a ∷ [])) ++ drop (10 * (length rs + 1)) table
 next_row rs table a h =
-    let n = row_words * length rs in
+    let n = 10 * length rs in
     let whole = flat rs ++ drop n table in
     let long : length whole ≡ length table = length-append (flat rs) (drop n table) ∙ rw (flat_length rs, length-drop n table) (omega arith) in
-    let m : row_words * (length rs + 1) ≡ n + row_words = omega arith in
+    let m : 10 * (length rs + 1) ≡ n + 10 = omega arith in
     let e = encode_length a in
     sets-eq (encode a) whole n (omega arith)
-    ∙ rw (e, take_at (flat rs) (drop n table) n (flat_length rs), ← drop-drop row_words n whole, drop_at (flat rs) (drop n table) n (flat_length rs), drop-drop row_words n table, flat_snoc rs a, m)
+    ∙ rw (e, take_at (flat rs) (drop n table) n (flat_length rs), ← drop-drop 10 n whole, drop_at (flat rs) (drop n table) n (flat_length rs), drop-drop 10 n table, flat_snoc rs a, m)
 
-row_of : (rs : List Answer) (rest : List ℕ) (i : ℕ) (d : Answer) → i < length rs → row_at (flat rs ++ rest) i ≡ kept (get_or rs i d)
+row_of : (rs : List Answer) (rest : List ℕ) (i : ℕ) (d : Answer) → i < length rs → row_at (flat rs ++ rest) i ≡ get_or rs i d
 unfolding row_at flat
 row_of [] rest i d h = absurd (omega arith)
 row_of (r ∷ rs) rest zero d h =
-    rw (append_assoc (encode r) (flat rs) rest, take_at (encode r) (flat rs ++ rest) row_words (encode_length r)) (decode_encode r)
+    rw (append_assoc (encode r) (flat rs) rest, take_at (encode r) (flat rs ++ rest) 10 (encode_length r)) (decode_encode r)
 row_of (r ∷ rs) rest (suc i) d h =
-    let e : row_words * suc i ≡ row_words + row_words * i = omega arith in
-    rw (e, append_assoc (encode r) (flat rs) rest, ← drop-drop (row_words * i) row_words (encode r ++ (flat rs ++ rest)), drop_at (encode r) (flat rs ++ rest) row_words (encode_length r))
+    let e : 10 * suc i ≡ 10 + 10 * i = omega arith in
+    rw (e, append_assoc (encode r) (flat rs) rest, ← drop-drop (10 * i) 10 (encode r ++ (flat rs ++ rest)), drop_at (encode r) (flat rs ++ rest) 10 (encode_length r))
     (row_of rs rest i d (omega arith))
 
--- an answer among the first rows is what a row keeps of one of their list
-pub answer_of_list : (rs : List Answer) (rest : List ℕ) (t : ℕ) → answer_at (flat rs ++ rest) (length rs) t ≡ kept (get_or rs t (Refused misread))
+-- an answer among the first rows is one of their list
+pub answer_of_list : (rs : List Answer) (rest : List ℕ) (t : ℕ) → answer_at (flat rs ++ rest) (length rs) t ≡ get_or rs t (Refused misread)
 unfolding answer_at
 answer_of_list rs rest t = by_test (ltb t (length rs)) refl
   where
-    by_test : (b : Bool) → ltb t (length rs) ≡ b → cond b (row_at (flat rs ++ rest) t) (Refused misread) ≡ kept (get_or rs t (Refused misread))
+    by_test : (b : Bool) → ltb t (length rs) ≡ b → cond b (row_at (flat rs ++ rest) t) (Refused misread) ≡ get_or rs t (Refused misread)
     by_test true h = row_of rs rest t (Refused misread) (omega (arith, ltb-true t (length rs) h))
-    by_test false h = sym (ap kept (get_or-eq_default rs (Refused misread) (omega (arith, ltb-false t (length rs) h))) ∙ kept_misread)
+    by_test false h = sym (get_or-eq_default rs (Refused misread) (omega (arith, ltb-false t (length rs) h)))

@@ -1,16 +1,12 @@
--- A table of layouts: a row of eleven words a type, one behind the other.
+-- A table of layouts: a row of ten words a type, one behind the other.
 use Rattle.std.specs.Prelude.{ℕ, ◌*◌, cond, List, [], ◌∷◌, ◌++◌, ltb, take, drop}
-use Rattle.base_arith.specs.Refusals.{misread}
-use Rattle.shapes.specs.Words.{row_words, encode, decode}
+use Rattle.arith.specs.Refusals.{misread}
+use Rattle.shapes.specs.Words.{encode, decode}
 use Rattle.shapes.specs.declared.Answer.{Answer}
 use Rattle.shapes.specs.declared.Answer.TheVariants.{Refused}
 
--- words of the rows of 256 types
-abbrev pub all_rows : ℕ
-all_rows = 2816
-
 unfoldable pub row_at : List ℕ → ℕ → Answer
-row_at table i = decode (take row_words (drop (row_words * i) table))
+row_at table i = decode (take 10 (drop (10 * i) table))
 
 -- of the first n types; a number that is not below n is refused with 1
 unfoldable pub answer_at : List ℕ → (n t : ℕ) → Answer

@@ -7,13 +7,11 @@ use Rattle.shapes.specs.declared.MaybeDynMemLayout.{MaybeDynMemLayout}
 -- what memory consists of; a length 0 is none
 pub data Components : Type 0 where
   Scalar : Components
-  Elements : (stride elem fixed_len_lem : ℕ) → Components
+  Elements : (stride elem fixed_len : ℕ) → Components
   Fields : (offsets types : List ℕ) → Components
 
--- with the end of its last data byte (document 02, d)
 pub record MemTypeLayout : Type 0 where
   pub mem : MaybeDynMemLayout
-  pub data_end : ℕ
   pub components : Components
 
 pub data HandleLayout : Type 0 where
@@ -23,16 +21,12 @@ pub data HandleLayout : Type 0 where
 -- a length 0 is none
 pub data TypeLayout : Type 0 where
   Handle : HandleLayout → TypeLayout
-  HandleArray : HandleLayout → (fixed_len_lem : ℕ) → TypeLayout
+  HandleArray : HandleLayout → (fixed_len : ℕ) → TypeLayout
   Concrete : MemTypeLayout → TypeLayout
 
 -- the size, alignments and runtime stride of memory
 abbrev pub size_of : MemTypeLayout → ℕ
 size_of m = m.mem.fixed_base.size
-
--- where its data ends
-abbrev pub end_of : MemTypeLayout → ℕ
-end_of m = m.data_end
 
 abbrev pub align_of : MemTypeLayout → ℕ
 align_of m = m.mem.fixed_base.align
@@ -46,10 +40,9 @@ dyn_of m = m.mem.dyn_unit_stride
 abbrev pub runtime_sized : MemTypeLayout → Bool
 runtime_sized m = not (eqb (dyn_of m) 0)
 
-abbrev pub memory : (size end align legacy dyn : ℕ) → Components → MemTypeLayout
-memory size end align legacy dyn parts = record {
+abbrev pub memory : (size align legacy dyn : ℕ) → Components → MemTypeLayout
+memory size align legacy dyn parts = record {
   mem = record { fixed_base = record { align = align; legacy_align = legacy; size = size }; dyn_unit_stride = dyn };
-  data_end = end;
   components = parts;
 }
 

@@ -1,7 +1,7 @@
 -- What the code's layouts say in the definitions' terms: a struct's fields, a span of two parallel lists, are the parts of these lists.
 -- A span that runs past a list's end reads as the shorter list.
 use Rattle.std.specs.Prelude.{ℕ, ◌≡◌, List, [], ◌∷◌, get_or, take, drop}
-use Rattle.base_arith.specs.Refusals.{Result, ok, refused}
+use Rattle.arith.specs.Refusals.{Result, ok, refused}
 use Rattle.shapes.specs.Shapes as def
 use Rattle.shapes.specs.declared.Components.{Components}
 use Rattle.shapes.specs.declared.Components.TheVariants.{Scalar, Elements, Fields}
@@ -33,7 +33,7 @@ parts_by f (Elements stride elem len) = def.Elements stride elem len
 parts_by f (Fields start count) = f start count
 
 abbrev pub memory_by : Reading → MemTypeLayout → def.MemTypeLayout
-memory_by f m = record { mem = m.mem; data_end = m.data_end; components = parts_by f m.components }
+memory_by f m = record { mem = m.mem; components = parts_by f m.components }
 
 abbrev pub handle_by : Reading → Handle → def.HandleLayout
 handle_by f handle.Opaque = def.Opaque
@@ -64,7 +64,7 @@ held_parts (def.Elements stride elem len) = Elements stride elem len
 held_parts (def.Fields starts counts) = Fields (get_or starts 0 0) (get_or counts 0 0)
 
 abbrev pub held_memory : def.MemTypeLayout → MemTypeLayout
-held_memory m = record { mem = m.mem; data_end = m.data_end; components = held_parts m.components }
+held_memory m = record { mem = m.mem; components = held_parts m.components }
 
 abbrev pub held_handle : def.HandleLayout → Handle
 held_handle def.Opaque = handle.Opaque

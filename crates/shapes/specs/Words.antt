@@ -1,8 +1,6 @@
--- The eleven words that hold a layout or a refusal: the first says which of the two and which layout, so that each is read back as it was.
--- Document 01, "The refusals": a layout is refused by 4 to 17; a row that holds another number is one that no sheet makes.
+-- The ten words that hold a layout or a refusal: the first says which of the two and which layout, so that each is read back as it was.
 use Rattle.std.specs.Prelude.{ℕ, ◌≡◌, cond, List, [], ◌∷◌, eqb, get_or}
-use Rattle.base_arith.specs.Refusals.{misread, unsupported, ambiguous}
-use Rattle.base_arith.specs.Numbers.{within}
+use Rattle.arith.specs.Refusals.{misread}
 use Rattle.spirv.specs.Rows.{same_words}
 use Rattle.shapes.specs.declared.Components.{Components}
 use Rattle.shapes.specs.declared.Components.TheVariants.{Scalar, Elements, Fields}
@@ -26,25 +24,21 @@ part_words Scalar = 0 ∷ 0 ∷ 0 ∷ []
 part_words (Elements stride elem len) = stride ∷ elem ∷ len ∷ []
 part_words (Fields start count) = start ∷ count ∷ 0 ∷ []
 
--- words of a row
-abbrev pub row_words : ℕ
-row_words = 11
-
--- what it is, its number, what it is made of, its size, the end of its data, its alignments and runtime stride, its parts
+-- what it is, its number, what it is made of, its size, alignments and runtime stride, its parts
 unfoldable pub memory_words : (tag number : ℕ) → MemTypeLayout → List ℕ
 memory_words tag number m =
     tag ∷ number ∷ kind_of m.components
-    ∷ m.mem.fixed_base.size ∷ m.data_end ∷ m.mem.fixed_base.align ∷ m.mem.fixed_base.legacy_align ∷ m.mem.dyn_unit_stride
+    ∷ m.mem.fixed_base.size ∷ m.mem.fixed_base.align ∷ m.mem.fixed_base.legacy_align ∷ m.mem.dyn_unit_stride
     ∷ part_words m.components
 
 -- an opaque handle has no memory
 unfoldable pub handle_words : (tag number : ℕ) → Handle → List ℕ
-handle_words tag number handle.Opaque = tag ∷ number ∷ 0 ∷ 0 ∷ 0 ∷ 0 ∷ 0 ∷ 0 ∷ 0 ∷ 0 ∷ 0 ∷ []
+handle_words tag number handle.Opaque = tag ∷ number ∷ 0 ∷ 0 ∷ 0 ∷ 0 ∷ 0 ∷ 0 ∷ 0 ∷ 0 ∷ []
 handle_words tag number (handle.Buffer m) = memory_words tag number m
 
 -- the number is a refusal's own, or a handle array's length
 unfoldable pub encode : Answer → List ℕ
-encode (Refused n) = 0 ∷ n ∷ 0 ∷ 0 ∷ 0 ∷ 0 ∷ 0 ∷ 0 ∷ 0 ∷ 0 ∷ 0 ∷ []
+encode (Refused n) = 0 ∷ n ∷ 0 ∷ 0 ∷ 0 ∷ 0 ∷ 0 ∷ 0 ∷ 0 ∷ 0 ∷ []
 encode (Laid (layout.Handle h)) = handle_words 1 0 h
 encode (Laid (layout.HandleArray h n)) = handle_words 2 n h
 encode (Laid (layout.Concrete m)) = memory_words 3 0 m
@@ -57,19 +51,14 @@ components_of kind a b c = cond (eqb kind 2) (Elements a b c) (cond (eqb kind 3)
 unfoldable pub memory_of : List ℕ → MemTypeLayout
 memory_of ws = record {
   mem = record {
-    fixed_base = record { align = get_or ws 5 0; legacy_align = get_or ws 6 0; size = get_or ws 3 0 };
-    dyn_unit_stride = get_or ws 7 0;
+    fixed_base = record { align = get_or ws 4 0; legacy_align = get_or ws 5 0; size = get_or ws 3 0 };
+    dyn_unit_stride = get_or ws 6 0;
   };
-  data_end = get_or ws 4 0;
-  components = components_of (get_or ws 2 0) (get_or ws 8 0) (get_or ws 9 0) (get_or ws 10 0);
+  components = components_of (get_or ws 2 0) (get_or ws 7 0) (get_or ws 8 0) (get_or ws 9 0);
 }
 
 abbrev pub handle_of : (kind : ℕ) → MemTypeLayout → Handle
 handle_of kind m = cond (eqb kind 0) handle.Opaque (handle.Buffer m)
-
--- a layout is refused by 4 to 17; any other number is 1
-abbrev pub layout_refusal : ℕ → ℕ
-layout_refusal n = within unsupported ambiguous misread n
 
 -- an answer whose words these are, if there is one
 unfoldable pub answer_of : List ℕ → Answer
@@ -77,19 +66,13 @@ answer_of ws =
     cond (eqb (get_or ws 0 0) 1) (Laid (layout.Handle (handle_of (get_or ws 2 0) (memory_of ws))))
     (cond (eqb (get_or ws 0 0) 2) (Laid (layout.HandleArray (handle_of (get_or ws 2 0) (memory_of ws)) (get_or ws 1 0)))
     (cond (eqb (get_or ws 0 0) 3) (Laid (layout.Concrete (memory_of ws)))
-    (Refused (layout_refusal (get_or ws 1 0)))))
+    (Refused (get_or ws 1 0))))
 
 -- the answer that words hold is the one whose words they are; words that are none's are refused with 1
 unfoldable pub decode : List ℕ → Answer
 decode ws = cond (same_words (encode (answer_of ws)) ws) (answer_of ws) (Refused misread)
 
--- what a row keeps of an answer
-abbrev pub kept : Answer → Answer
-kept (Laid l) = Laid l
-kept (Refused n) = Refused (layout_refusal n)
-
--- each answer is read back from its words as far as a row keeps it; a layout is read from no other words, and no refusal that a row doesn't keep
+-- each answer is read back from its words; a layout is read from no other words
 pub record ReadsBack : Type 0 where
-  pub back : (a : Answer) → decode (encode a) ≡ kept a
+  pub back : (a : Answer) → decode (encode a) ≡ a
   pub only : (ws : List ℕ) (l : TypeLayout) → decode ws ≡ Laid l → ws ≡ encode (Laid l)
-  pub refusal : (ws : List ℕ) → kept (decode ws) ≡ decode ws

@@ -1,32 +1,28 @@
-// A table of layouts: a row of eleven words a type.
+// A table of layouts: a row of ten words a type.
 ghost use Rattle.std.specs.Prelude.{◌≡◌, ◌*◌, take, drop};
 ghost use Rattle.std.proofs.lemmas.List.Edits.{sets};
-ghost use Rattle.shapes.specs.Words.{row_words, encode};
+ghost use Rattle.shapes.specs.Words.{encode};
 ghost use Rattle.shapes.specs.Rows.{row_at, answer_at};
 
-use crate::words::ROW_WORDS;
 use crate::{Answer, words};
-
-// Words of the rows of 256 types.
-pub const ALL_ROWS: usize = 2816;
 
 // Row i of a table; one that the table lacks is refused with 1.
 pub fn read_row(table: &[u32], i: u32) -> Answer
     ensures { result ≡ row_at table.now i }
 {
-    let at = ROW_WORDS * i as usize;
-    if table.len() < at + ROW_WORDS {
+    let at = 10 * i as usize;
+    if table.len() < at + 10 {
         return Answer::Refused(1);
     }
-    words::answer(&table[at..at + ROW_WORDS])
+    words::answer(&table[at..at + 10])
 }
 
 // Row i of a table, written; what lies past the table's end is left out.
 pub fn write_row(table: &mut [u32], i: u32, a: Answer)
-    ensures { table.new ≡ sets table.old (row_words * i) (encode a) }
+    ensures { table.new ≡ sets table.old (10 * i) (encode a) }
 {
     let ws = words::words(a);
-    spirv::put_words(table, ROW_WORDS * i as usize, &ws);
+    spirv::put_words(table, 10 * i as usize, &ws);
 }
 
 // The answer of type t, of the first n types; a number that is not below n is refused with 1.

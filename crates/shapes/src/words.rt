@@ -1,19 +1,16 @@
-// A layout or a refusal as eleven words: what it is, its number, what it is made of, size, the end of its data, alignments and runtime stride, and three words of its parts.
+// A layout or a refusal as ten words: what it is, its number, what it is made of, size, alignments and runtime stride, and three words of its parts.
 ghost use Rattle.std.specs.Prelude.{◌≡◌, length};
 ghost use Rattle.shapes.specs.Settings.{setting_of};
-ghost use Rattle.shapes.specs.Words.{row_words, memory_words, handle_words, encode, components_of, memory_of, handle_of, answer_of, decode};
+ghost use Rattle.shapes.specs.Words.{memory_words, handle_words, encode, components_of, memory_of, handle_of, answer_of, decode};
 
 use crate::{
     Answer, Components, Handle, LayoutConfig, MaybeDynMemLayout, MemLayout, MemTypeLayout,
     TypeLayout,
 };
 
-// Words of a row.
-pub const ROW_WORDS: usize = 11;
-
 // ---- to words
 
-fn memory_words(tag: u32, number: u32, m: MemTypeLayout) -> [u32; ROW_WORDS]
+fn memory_words(tag: u32, number: u32, m: MemTypeLayout) -> [u32; 10]
     ensures { result ≡ memory_words tag number m }
 {
     let mem = m.mem;
@@ -22,35 +19,32 @@ fn memory_words(tag: u32, number: u32, m: MemTypeLayout) -> [u32; ROW_WORDS]
     let align = base.align;
     let legacy = base.legacy_align;
     let unit = mem.dyn_unit_stride;
-    let end = m.data_end;
     let components = m.components;
     match components {
-        Components::Scalar => [tag, number, 1, size, end, align, legacy, unit, 0, 0, 0],
+        Components::Scalar => [tag, number, 1, size, align, legacy, unit, 0, 0, 0],
         Components::Elements {
             stride,
             elem,
             fixed_len,
         } => [
-            tag, number, 2, size, end, align, legacy, unit, stride, elem, fixed_len,
+            tag, number, 2, size, align, legacy, unit, stride, elem, fixed_len,
         ],
         Components::Fields { start, count } => {
-            [
-                tag, number, 3, size, end, align, legacy, unit, start, count, 0,
-            ]
+            [tag, number, 3, size, align, legacy, unit, start, count, 0]
         }
     }
 }
 
-fn handle_words(tag: u32, number: u32, h: Handle) -> [u32; ROW_WORDS]
+fn handle_words(tag: u32, number: u32, h: Handle) -> [u32; 10]
     ensures { result ≡ handle_words tag number h }
 {
     match h {
-        Handle::Opaque => [tag, number, 0, 0, 0, 0, 0, 0, 0, 0, 0],
+        Handle::Opaque => [tag, number, 0, 0, 0, 0, 0, 0, 0, 0],
         Handle::Buffer(m) => memory_words(tag, number, m),
     }
 }
 
-fn layout_words(l: TypeLayout) -> [u32; ROW_WORDS]
+fn layout_words(l: TypeLayout) -> [u32; 10]
     ensures { result ≡ encode (Answer.Laid l) }
 {
     match l {
@@ -60,11 +54,11 @@ fn layout_words(l: TypeLayout) -> [u32; ROW_WORDS]
     }
 }
 
-pub fn words(a: Answer) -> [u32; ROW_WORDS]
+pub fn words(a: Answer) -> [u32; 10]
     ensures { result ≡ encode a }
 {
     match a {
-        Answer::Refused(n) => [0, n, 0, 0, 0, 0, 0, 0, 0, 0, 0],
+        Answer::Refused(n) => [0, n, 0, 0, 0, 0, 0, 0, 0, 0],
         Answer::Laid(l) => layout_words(l),
     }
 }
@@ -89,25 +83,20 @@ fn components_of(kind: u32, a: u32, b: u32, c: u32) -> Components
 
 // Memory whose words are these, if there is any.
 fn memory_of(ws: &[u32]) -> MemTypeLayout
-    requires { length ws.now ≡ row_words }
+    requires { length ws.now ≡ 10 }
     ensures { result ≡ memory_of ws.now }
 {
-    let data_end = ws[4];
-    let components = components_of(ws[2], ws[8], ws[9], ws[10]);
+    let components = components_of(ws[2], ws[7], ws[8], ws[9]);
     let fixed_base = MemLayout {
-        align: ws[5],
-        legacy_align: ws[6],
+        align: ws[4],
+        legacy_align: ws[5],
         size: ws[3],
     };
     let mem = MaybeDynMemLayout {
         fixed_base,
-        dyn_unit_stride: ws[7],
+        dyn_unit_stride: ws[6],
     };
-    MemTypeLayout {
-        mem,
-        data_end,
-        components,
-    }
+    MemTypeLayout { mem, components }
 }
 
 fn handle_of(kind: u32, m: MemTypeLayout) -> Handle
@@ -121,7 +110,7 @@ fn handle_of(kind: u32, m: MemTypeLayout) -> Handle
 
 // An answer whose words are these, if there is one.
 fn answer_of(ws: &[u32]) -> Answer
-    requires { length ws.now ≡ row_words }
+    requires { length ws.now ≡ 10 }
     ensures { result ≡ answer_of ws.now }
 {
     let tag = ws[0];
@@ -135,14 +124,14 @@ fn answer_of(ws: &[u32]) -> Answer
     if tag == 3 {
         return Answer::Laid(TypeLayout::Concrete(m));
     }
-    Answer::Refused(base_arith::within(4, 17, 1, ws[1]))
+    Answer::Refused(ws[1])
 }
 
 // The answer that words hold is the one whose words they are; words that are none's are refused with 1.
 pub fn answer(ws: &[u32]) -> Answer
     ensures { result ≡ decode ws.now }
 {
-    if ws.len() != ROW_WORDS {
+    if ws.len() != 10 {
         return Answer::Refused(1);
     }
     let a = answer_of(ws);

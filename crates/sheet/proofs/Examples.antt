@@ -5,8 +5,8 @@ use mathlib.Core.Path.{◌≡◌, refl}
 use mathlib.Core.Bool.{true, false}
 use mathlib.Core.List.{[], ◌∷◌, ◌++◌, map}
 use mathlib.Core.Option.{some}
-use Rattle.base_arith.specs.Refusals.{Result, ok, refused}
-use Rattle.base_decimal.specs.Text.{bytes}
+use Rattle.arith.specs.Refusals.{Result, ok, refused}
+use Rattle.decimal.specs.Text.{bytes}
 use Rattle.spirv.specs.declared.Length.TheVariants.{Fixed, Specialization}
 use Rattle.spirv.specs.declared.Stride.TheVariants as stride
 use Rattle.spirv.specs.declared.Decoration.TheVariants.{RowMajor, Offset}
@@ -27,8 +27,8 @@ unfolding opened
 settings = refl
 
 -- below four types
-types : map (λ t. read_line 4 (bytes t)) ("B" ∷ "I,8" ∷ "F,32" ∷ "V,1,3" ∷ "M,2,4" ∷ "A,3,5,16" ∷ "A,0,s,-" ∷ "R,1,-" ∷ "P,12,2" ∷ "P,12,2,0" ∷ "O" ∷ "U" ∷ [])
-    ≡ map (λ t. some (declare t)) (spv.Bool ∷ spv.Int 8 ∷ spv.Float 32 ∷ spv.Vector 1 3 ∷ spv.Matrix 2 4 ∷ spv.Array 3 (Fixed 5) (stride.Decorated 16) ∷ spv.Array 0 Specialization stride.Undecorated ∷ spv.RuntimeArray 1 stride.Undecorated ∷ spv.Pointer 12 2 stride.Undecorated ∷ spv.Pointer 12 2 (stride.Decorated 0) ∷ spv.Opaque ∷ spv.Unsupported ∷ [])
+types : map (λ t. read_line 4 (bytes t)) ("B" ∷ "I,8" ∷ "F,32" ∷ "V,1,3" ∷ "M,2,4" ∷ "A,3,5,16" ∷ "A,0,s,-" ∷ "R,1,-" ∷ "P,12,2" ∷ "O" ∷ "U" ∷ [])
+    ≡ map (λ t. some (declare t)) (spv.Bool ∷ spv.Int 8 ∷ spv.Float 32 ∷ spv.Vector 1 3 ∷ spv.Matrix 2 4 ∷ spv.Array 3 (Fixed 5) (stride.Decorated 16) ∷ spv.Array 0 Specialization stride.Undecorated ∷ spv.RuntimeArray 1 stride.Undecorated ∷ spv.Pointer 12 2 ∷ spv.Opaque ∷ spv.Unsupported ∷ [])
 unfolding opened
 types = refl
 

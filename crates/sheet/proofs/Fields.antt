@@ -7,11 +7,11 @@ use mathlib.Core.List.{List, [], ◌∷◌}
 use mathlib.Core.Option.{Option, none, some}
 use lib.Dec.{ltb, eqb}
 use borrow.Author.Tests.{ltb-true}
-use Rattle.base_arith.specs.Options.{◌>>=◌}
-use Rattle.base_arith.proofs.Results.{no_some, some_is}
-use Rattle.base_decimal.specs.Text.{bytes, same}
-use Rattle.base_decimal.specs.Decimal.{read_number}
-use Rattle.base_decimal.proofs.OneForm.{one_form}
+use Rattle.arith.specs.Options.{◌>>=◌}
+use Rattle.arith.proofs.Results.{no_some, some_is}
+use Rattle.decimal.specs.Text.{bytes, same}
+use Rattle.decimal.specs.Decimal.{read_number}
+use Rattle.decimal.proofs.OneForm.{one_form}
 use Rattle.sheet.specs.Fields.{read_type, read_length, read_stride, read_index, read_decoration, read_all}
 use Rattle.sheet.specs.Statements.{Fits, All, FitsLength, FitsStride, FitsValue, FitsIndex}
 

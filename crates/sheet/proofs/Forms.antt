@@ -8,19 +8,17 @@ use mathlib.Core.List.{List, [], ◌∷◌}
 use mathlib.Core.Option.{Option}
 use lib.Dec.{eqb}
 use lib.ListN.{length}
-use Rattle.base_decimal.specs.Text.{bytes, same, split}
-use Rattle.base_decimal.specs.Decimal.{read_number}
+use Rattle.decimal.specs.Text.{bytes, same, split}
+use Rattle.decimal.specs.Decimal.{read_number}
 use Rattle.spirv.specs.declared.Length.{Length}
 use Rattle.spirv.specs.declared.Stride.{Stride}
-use Rattle.spirv.specs.declared.Stride.TheVariants.{Undecorated}
-use Rattle.spirv.specs.declared.Stride.TheVariants as stride
 use Rattle.spirv.specs.declared.Decoration.{Decoration}
 use Rattle.spirv.specs.declared.Index.{Index}
 use Rattle.spirv.specs.declared.ChainOp.{ChainOp}
 use Rattle.spirv.specs.declared.SpvType.{SpvType}
 use Rattle.spirv.specs.declared.SpvType.TheVariants as spv
 use Rattle.spirv.specs.Decl.{plain}
-use Rattle.sheet.specs.Fields.{Form, field, number, flag, type, number_or_s, number_or_dash, op, decoration_value, types, indices, last_number, end, read_flag, read_type, read_length, read_stride, read_op, read_index, read_decoration, read_all}
+use Rattle.sheet.specs.Fields.{Form, field, number, flag, type, number_or_s, number_or_dash, op, decoration_value, types, indices, end, read_flag, read_type, read_length, read_stride, read_op, read_index, read_decoration, read_all}
 use Rattle.sheet.specs.Grammar.{Line, Setting, Declared, Decorated, Asked, declare_struct, grammar, form_of, by_first, read_line}
 use Rattle.sheet.specs.Sheet.{max_indices, index_count, good_setting}
 use Rattle.sheet.specs.Statements.{Fits, All, FitsLength, FitsStride, FitsValue, FitsIndex, FitsType, FitsDecoration, FitsDecl, FitsQuestion, FitsSetting}
@@ -79,14 +77,6 @@ module _ (above : ℕ) where
   on_indices : {next : List Index → Option Line} → ((is : List Index) → All FitsIndex is → Gives (FitsLine above) (next is)) → Fine (indices next)
   on_indices {next} n = record { line = λ fs. gives_then (read_all read_index fs) next (all_fit read_index index_fits fs) n }
 
-  on_last : {next : Stride → Line} → ((s : Stride) → FitsStride s → FitsLine above (next s)) → Fine (last_number next)
-  on_last {next} n = record { line = by }
-    where
-      by : (fs : List (List ℕ)) → Gives (FitsLine above) (last_number next fs)
-      by [] = gives (n Undecorated tt)
-      by (f ∷ []) = gives_then (read_number f) _ (number_fits f) (λ k p. gives (n (stride.Decorated k) p))
-      by (f ∷ g ∷ fs) = gives_none
-
   at_end : {l : Line} → FitsLine above l → Fine (end l)
   at_end {l} p = record { line = by }
     where
@@ -137,7 +127,7 @@ module _ (above : ℕ) where
       and (on_type λ elem p. on_length λ len q. on_stride λ stride r. at_end (plain_fits (p, q, r)))
       and (on_type λ elem p. on_stride λ stride r. at_end (plain_fits (p, r)))
       and (on_flag λ block. on_number λ n p. on_types λ members q. struct_fits block n members q)
-      and (on_number λ class p. on_type λ pointee q. on_last λ stride r. plain_fits (p, q, r))
+      and (on_number λ class p. on_type λ pointee q. at_end (plain_fits (p, q)))
       and at_end (plain_fits tt)
       and at_end (plain_fits tt)
       and (on_number λ member p. on_value λ d q. at_end (p, q))

@@ -9,9 +9,9 @@ use mathlib.Core.List.{List, [], ◌∷◌, ◌++◌}
 use mathlib.Core.Option.{Option, none, some}
 use lib.ListN.{length, length-append}
 use borrow.Author.Tests.{ltb-true, leb-true}
-use Rattle.base_arith.specs.Refusals.{ok, misread, oversize, bad_setting}
-use Rattle.base_arith.proofs.Results.{never, value_is, went, passed, not_refused}
-use Rattle.base_decimal.specs.Text.{split}
+use Rattle.arith.specs.Refusals.{ok, misread, oversize, bad_setting}
+use Rattle.arith.proofs.Results.{never, value_is, went, passed, not_refused}
+use Rattle.decimal.specs.Text.{split}
 use Rattle.spirv.specs.declared.MemberDecoration.{MemberDecoration}
 use Rattle.spirv.specs.Decl.{Decl}
 use Rattle.spirv.specs.Questions.{Question}

@@ -4,8 +4,8 @@ use Prim.Native.String.{String}
 use mathlib.Core.Path.{◌≡◌, refl}
 use mathlib.Core.List.{List, [], ◌∷◌, ◌++◌, map}
 use lib.ListN.{length, replicate}
-use Rattle.base_arith.specs.Refusals.{Result, ok, refused, misread, oversize}
-use Rattle.base_decimal.specs.Text.{bytes}
+use Rattle.arith.specs.Refusals.{Result, ok, refused, misread, oversize}
+use Rattle.decimal.specs.Text.{bytes}
 use Rattle.sheet.specs.Sheet.{Sheet, member_count, read_sheet}
 use Rattle.sheet.proofs.Opened.{opened}
 

@@ -1,8 +1,8 @@
 -- What is asked of the sheet that a text is: the form of the examples by computation. Assumes nothing.
 use Prim.Native.Nat.{ℕ}
 use Prim.Native.String.{String}
-use Rattle.base_arith.specs.Refusals.{Result, ok, refused}
-use Rattle.base_decimal.specs.Text.{bytes}
+use Rattle.arith.specs.Refusals.{Result, ok, refused}
+use Rattle.decimal.specs.Text.{bytes}
 use Rattle.sheet.specs.Sheet.{Sheet, read_sheet}
 
 abbrev pub of_sheet : {A : Type 0} → Result Sheet → (Sheet → A) → Result A

@@ -6,9 +6,9 @@ use mathlib.Core.List.{List, [], ◌∷◌}
 use mathlib.Core.Option.{Option, none, some}
 use lib.Dec.{leb, ltb}
 use lib.ListN.{length}
-use Rattle.base_arith.specs.Refusals.{misread, oversize, bad_setting}
-use Rattle.base_arith.proofs.Results.{RefusedBy, fine_by, this_by, then_by, and_by, unless_by}
-use Rattle.base_decimal.specs.Text.{split}
+use Rattle.arith.specs.Refusals.{misread, oversize, bad_setting}
+use Rattle.arith.proofs.Results.{RefusedBy, fine_by, this_by, then_by, and_by, unless_by}
+use Rattle.decimal.specs.Text.{split}
 use Rattle.spirv.specs.declared.MemberDecoration.{MemberDecoration}
 use Rattle.spirv.specs.Decl.{Decl}
 use Rattle.sheet.specs.Grammar.{Line, Setting, Declared, Decorated, Asked, read_line}

@@ -1,7 +1,7 @@
 -- The tables of a sheet, computed from the definitions. Assumes nothing.
 use mathlib.Core.Path.{◌≡◌, refl}
 use mathlib.Core.List.{[], ◌∷◌}
-use Rattle.base_arith.specs.Refusals.{ok}
+use Rattle.arith.specs.Refusals.{ok}
 use Rattle.spirv.specs.Rows.{encode_row}
 use Rattle.spirv.specs.Reduced.{taken_in, reduced_by, reduced, decl_row, given_words}
 use Rattle.sheet.specs.Tables.{setting_words, types_words, members_words, offsets_words}
@@ -19,7 +19,7 @@ rows : of "G,1,1,1,1,1,1\nF,32\nS,0,2,0,0\nD,0,35,0\nD,1,35,8\nT,1\nS,1,3,0,1,0\
     (70 ∷ 32 ∷ 0 ∷ 0 ∷ 0 ∷ 0
     ∷ 83 ∷ 0 ∷ 0 ∷ 2 ∷ 0 ∷ 2
     ∷ 83 ∷ 1 ∷ 2 ∷ 3 ∷ 14 ∷ 1
-    ∷ 80 ∷ 12 ∷ 2 ∷ 1 ∷ 0 ∷ 0
+    ∷ 80 ∷ 12 ∷ 2 ∷ 0 ∷ 0 ∷ 0
     ∷ [])
 unfolding opened encode_row decl_row reduced reduced_by taken_in
 rows = refl

@@ -7,13 +7,11 @@ use mathlib.Core.List.{List, [], ◌∷◌, ◌++◌, append_assoc, append-nil}
 use mathlib.Core.Option.{some}
 use lib.ListN.{length, take, drop, get_elem?, replicate, length-append, length-replicate, length-drop}
 use lib.Seq.{sets, sets-eq, length-take-le, drop-append-add, take-append_seam, take_at, drop-append-le, take-append-le}
-use Rattle.base_arith.proofs.Results.{no_some, some_is}
-use Rattle.base_arith.proofs.Bounds.{other_stays}
+use Rattle.arith.proofs.Results.{no_some, some_is}
 use Rattle.spirv.specs.Decl.{Decl, is_struct}
 use Rattle.spirv.specs.Rows.{encode_row, struct_row, plain_row, decode_row, row_at, OfDeclaration}
 use Rattle.spirv.specs.Reduced.{decl_row, given_words, reduced}
 use Rattle.spirv.proofs.Rows.{row_length, rows_read_back}
-use Rattle.spirv.proofs.Reduced.{reduced_lines}
 use Rattle.sheet.specs.Sheet.{member_count}
 use Rattle.sheet.specs.Tables.{over, types_words, members_words, offsets_words, span_start, Spans, ReadBack}
 
@@ -134,8 +132,8 @@ unfolding decl_row
 of_declaration start d = go (is_struct d.type) refl
   where
     go : (b : Bool) → is_struct d.type ≡ b → OfDeclaration (cond b (struct_row d.type start (length d.members) (reduced d.decorations).refusal (length (reduced d.decorations).offsets)) (plain_row d.type))
-    go true e = record { plain = λ f. absurd (true≢false (sym e ∙ f)); lines = reduced_lines d.decorations }
-    go false e = record { plain = λ f. refl; lines = other_stays 12 14 0 }
+    go true e = record { plain = λ f. absurd (true≢false (sym e ∙ f)) }
+    go false e = record { plain = λ f. refl }
 
 pub read_back : (ds : List Decl) → ReadBack ds
 unfolding row_at

@@ -7,8 +7,8 @@ use mathlib.Core.Bool.{Bool, true, false, false≢true, true≢false}
 use mathlib.Core.List.{List, [], ◌∷◌, ◌++◌}
 use mathlib.Core.Option.{some}
 use lib.ListN.{length, get_elem?}
-use Rattle.base_arith.specs.Refusals.{ok, misread}
-use Rattle.base_arith.proofs.Results.{never, value_is, went, passed, not_refused, no_some, some_is}
+use Rattle.arith.specs.Refusals.{ok, misread}
+use Rattle.arith.proofs.Results.{never, value_is, went, passed, not_refused, no_some, some_is}
 use Rattle.spirv.specs.declared.MemberDecoration.{MemberDecoration}
 use Rattle.spirv.specs.Decl.{Decl, is_struct}
 use Rattle.sheet.specs.Sheet.{member_count, rises, decorate_last}

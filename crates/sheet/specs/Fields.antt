@@ -2,9 +2,9 @@
 use Rattle.std.specs.Prelude.{ℕ, Bool, true, false, cond, List, [], ◌∷◌, ltb, eqb}
 use Prim.Native.Char.{code}
 use Rattle.std.proofs.Math.Option.{Option, none, some}
-use Rattle.base_arith.specs.Options.{◌>>=◌}
-use Rattle.base_decimal.specs.Text.{bytes, same}
-use Rattle.base_decimal.specs.Decimal.{read_number}
+use Rattle.arith.specs.Options.{◌>>=◌}
+use Rattle.decimal.specs.Text.{bytes, same}
+use Rattle.decimal.specs.Decimal.{read_number}
 use Rattle.spirv.specs.declared.Length.{Length}
 use Rattle.spirv.specs.declared.Length.TheVariants.{Fixed, Specialization}
 use Rattle.spirv.specs.declared.Stride.{Stride}
@@ -112,14 +112,6 @@ module _ {A : Type 0} where
   indices next fs = do
     is ← read_all read_index fs
     next is
-
-  -- a number as the last field, or no field
-  abbrev pub last_number : (Stride → A) → Form A
-  last_number next [] = some (next Undecorated)
-  last_number next (f ∷ []) = do
-    n ← read_number f
-    some (next (Decorated n))
-  last_number next (f ∷ g ∷ fs) = none
 
   -- no field is left
   abbrev pub end : A → Form A

@@ -3,14 +3,14 @@ use Rattle.std.specs.Prelude.{ℕ, Bool, true, false, cond, List, [], ◌∷◌,
 use Prim.Native.Char.{code}
 use Prim.Native.String.{String}
 use Rattle.std.proofs.Math.Option.{Option, none, some}
-use Rattle.base_decimal.specs.Text.{bytes, same, split}
+use Rattle.decimal.specs.Text.{bytes, same, split}
 use Rattle.spirv.specs.declared.SpvType.{SpvType}
 use Rattle.spirv.specs.declared.SpvType.TheVariants as spv
 use Rattle.spirv.specs.declared.MemberDecoration.{MemberDecoration}
 use Rattle.spirv.specs.Decl.{Decl, plain}
 use Rattle.spirv.specs.Questions.{Question}
 use Rattle.shapes.specs.declared.LayoutConfig.{LayoutConfig}
-use Rattle.sheet.specs.Fields.{Form, number, flag, type, number_or_s, number_or_dash, op, decoration_value, types, indices, last_number, end}
+use Rattle.sheet.specs.Fields.{Form, number, flag, type, number_or_s, number_or_dash, op, decoration_value, types, indices, end}
 
 -- what a line says
 pub data Line : Type 0 where
@@ -49,7 +49,7 @@ grammar above =
     ∷ ("A", type above λ elem. number_or_s λ len. number_or_dash λ stride. end (declare (spv.Array elem len stride)))
     ∷ ("R", type above λ elem. number_or_dash λ stride. end (declare (spv.RuntimeArray elem stride)))
     ∷ ("S", flag λ block. number λ n. types above λ members. declare_struct block n members)
-    ∷ ("P", number λ class. type above λ pointee. last_number λ stride. declare (spv.Pointer class pointee stride))
+    ∷ ("P", number λ class. type above λ pointee. end (declare (spv.Pointer class pointee)))
     ∷ ("O", end (declare spv.Opaque))
     ∷ ("U", end (declare spv.Unsupported))
     ∷ ("D", number λ member. decoration_value λ d. end (Decorated record { member = member; decoration = d }))

@@ -3,13 +3,11 @@ use Rattle.std.specs.Prelude.{ℕ, ◌+◌, Bool, true, false, cond, ◌&&◌, L
 use Prim.Native.Char.{code}
 use Rattle.std.proofs.Math.Option.{Option, none, some}
 use Rattle.std.proofs.Math.ListN.{get_elem?}
-use Rattle.base_arith.specs.Refusals.{Result, ok, refused, ◌>>=◌, ◌>>◌, refuse◌unless◌, misread, oversize, bad_setting}
-use Rattle.base_arith.specs.Numbers.{is_power_of_two}
-use Rattle.base_decimal.specs.Text.{split}
-use Rattle.spirv.specs.declared.Stride.{Stride}
-use Rattle.spirv.specs.declared.Stride.TheVariants.{Undecorated}
+use Rattle.arith.specs.Refusals.{Result, ok, refused, ◌>>=◌, ◌>>◌, refuse◌unless◌, misread, oversize, bad_setting}
+use Rattle.arith.specs.Numbers.{is_power_of_two}
+use Rattle.decimal.specs.Text.{split}
 use Rattle.spirv.specs.declared.MemberDecoration.{MemberDecoration}
-use Rattle.spirv.specs.Decl.{Decl, is_struct, pointee_of, pointer_stride, before}
+use Rattle.spirv.specs.Decl.{Decl, is_struct, pointee_of, before}
 use Rattle.spirv.specs.Questions.{Question}
 use Rattle.shapes.specs.declared.LayoutConfig.{LayoutConfig}
 use Rattle.sheet.specs.Grammar.{Line, Setting, Declared, Decorated, Asked, read_line}
@@ -145,14 +143,6 @@ declared (some d) = ok d
 
 unfoldable pub decl_in : Sheet → ℕ → Result Decl
 decl_in s t = declared (get_elem? s.types t)
-
--- the stride that a pointer carries
-abbrev pub stride_carried : Result Decl → Stride
-stride_carried (refused n) = Undecorated
-stride_carried (ok d) = pointer_stride d.type
-
-unfoldable pub pointer_stride_in : Sheet → (ptr : ℕ) → Stride
-pointer_stride_in s ptr = stride_carried (decl_in s ptr)
 
 -- the pointee of a pointer; 18 on another type
 unfoldable pub pointee_in : Sheet → (ptr : ℕ) → Result ℕ

@@ -2,8 +2,8 @@
 use Rattle.std.specs.Prelude.{ℕ, ◌≤◌, ◌<◌, ◌≡◌, true, false, List, [], ◌∷◌, length}
 use Rattle.std.proofs.Math.Option.{some}
 use Rattle.std.proofs.Math.ListN.{get_elem?}
-use Rattle.base_arith.specs.Numbers.{max_u32}
-use Rattle.base_arith.specs.Refusals.{ok, refused, misread, bad_setting}
+use Rattle.arith.specs.Numbers.{max_u32}
+use Rattle.arith.specs.Refusals.{ok, refused, misread, bad_setting}
 use Rattle.spirv.specs.declared.Length.{Length}
 use Rattle.spirv.specs.declared.Length.TheVariants.{Fixed, Specialization}
 use Rattle.spirv.specs.declared.Stride.{Stride}
@@ -48,7 +48,7 @@ FitsType above (spv.Matrix column len) = (column < above) × Fits len
 FitsType above (spv.Array elem len stride) = (elem < above) × FitsLength len × FitsStride stride
 FitsType above (spv.RuntimeArray elem stride) = (elem < above) × FitsStride stride
 FitsType above (spv.Struct block) = Unit {0}
-FitsType above (spv.Pointer class pointee stride) = Fits class × (pointee < above) × FitsStride stride
+FitsType above (spv.Pointer class pointee) = Fits class × (pointee < above)
 FitsType above spv.Opaque = Unit {0}
 FitsType above spv.Unsupported = Unit {0}
 

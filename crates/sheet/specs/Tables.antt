@@ -2,7 +2,7 @@
 use Rattle.std.specs.Prelude.{ℕ, ◌+◌, ◌*◌, ◌≤◌, ◌<◌, ◌≡◌, Bool, ◌&&◌, List, [], ◌∷◌, ◌++◌, leb, length, take, drop}
 use Rattle.std.proofs.Math.Option.{some}
 use Rattle.std.proofs.Math.ListN.{get_elem?}
-use Rattle.base_arith.specs.Refusals.{Result, ok, ◌>>=◌, ◌>>◌, refuse◌unless◌, short_list}
+use Rattle.arith.specs.Refusals.{Result, ok, ◌>>=◌, ◌>>◌, refuse◌unless◌, short_list}
 use Rattle.spirv.specs.Decl.{Decl}
 use Rattle.spirv.specs.declared.RowReading.TheVariants.{Row}
 use Rattle.spirv.specs.Rows.{flag_word, encode_row, row_at}

@@ -3,7 +3,7 @@ use Prim.Native.Nat.{ℕ, ◌+◌}
 use mathlib.Core.Path.{◌≡◌, refl}
 use mathlib.Core.Bool.{Bool, true, false}
 use mathlib.Core.List.{List, [], ◌∷◌, map}
-use Rattle.base_arith.specs.Refusals.{ok, refused, no_pointer}
+use Rattle.arith.specs.Refusals.{ok, refused, no_pointer}
 use Rattle.spirv.specs.declared.Length.TheVariants.{Fixed}
 use Rattle.spirv.specs.declared.Stride.TheVariants.{Undecorated}
 use Rattle.spirv.specs.declared.SpvType.TheVariants as spv
@@ -26,7 +26,7 @@ order : map (λ a. map (before a) ordered) ordered
 unfolding before
 order = refl
 
-pointees : map pointee_of (spv.Bool ∷ spv.Int 32 ∷ spv.Float 32 ∷ spv.Vector 1 2 ∷ spv.Matrix 1 2 ∷ spv.Array 1 (Fixed 2) Undecorated ∷ spv.RuntimeArray 1 Undecorated ∷ spv.Struct true ∷ spv.Opaque ∷ spv.Unsupported ∷ spv.Pointer 12 7 Undecorated ∷ [])
+pointees : map pointee_of (spv.Bool ∷ spv.Int 32 ∷ spv.Float 32 ∷ spv.Vector 1 2 ∷ spv.Matrix 1 2 ∷ spv.Array 1 (Fixed 2) Undecorated ∷ spv.RuntimeArray 1 Undecorated ∷ spv.Struct true ∷ spv.Opaque ∷ spv.Unsupported ∷ spv.Pointer 12 7 ∷ [])
     ≡ refused no_pointer ∷ refused no_pointer ∷ refused no_pointer ∷ refused no_pointer ∷ refused no_pointer ∷ refused no_pointer ∷ refused no_pointer ∷ refused no_pointer ∷ refused no_pointer ∷ refused no_pointer ∷ ok 7 ∷ []
 unfolding pointee_of
 pointees = refl

@@ -6,7 +6,7 @@ use mathlib.Core.Option.{Option, none, some}
 use native.Mathlib.Omega.{arith}
 use lib.ListN.{length, get_or, get_elem?, length-append, get_or-append, get_or-eq_default}
 use lib.Seq.{get_or-append_seam}
-use Rattle.base_arith.proofs.Results.{no_some, some_is}
+use Rattle.arith.proofs.Results.{no_some, some_is}
 use Rattle.spirv.specs.Decl.{Decl, filled_after, filled}
 
 -- ---- the records of a list of types

@@ -3,5 +3,4 @@ pub mod Filled
 pub mod Examples
 pub mod Words
 pub mod Rows
-pub mod Reduced
 pub mod RowExamples

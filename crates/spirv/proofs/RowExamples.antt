@@ -3,7 +3,6 @@ use Prim.Native.Nat.{ℕ}
 use mathlib.Core.Path.{◌≡◌, refl}
 use mathlib.Core.Bool.{true, false}
 use mathlib.Core.List.{[], ◌∷◌, map}
-use Rattle.base_arith.specs.Numbers.{within}
 use Rattle.spirv.specs.declared.Length.TheVariants.{Fixed, Specialization}
 use Rattle.spirv.specs.declared.Stride.TheVariants.{Decorated, Undecorated}
 use Rattle.spirv.specs.declared.SpvType.TheVariants as spv
@@ -15,7 +14,7 @@ use Rattle.spirv.specs.declared.Index.TheVariants.{Known, Unknown}
 use Rattle.spirv.specs.Rows.{same_words, encode_row, type_of, row_of, row_of_words, decode_row, struct_row, plain_row, decode_index}
 use Rattle.spirv.specs.Reduced.{refusing, taken_in, reduced_by, reduced, given_words}
 
-rows : map encode_row (plain_row spv.Bool ∷ plain_row (spv.Int 32) ∷ plain_row (spv.Vector 1 3) ∷ plain_row (spv.Array 2 Specialization (Decorated 16)) ∷ plain_row (spv.Array 2 (Fixed 4) Undecorated) ∷ plain_row (spv.RuntimeArray 5 Undecorated) ∷ struct_row (spv.Struct true) 7 3 14 2 ∷ plain_row (spv.Pointer 12 6 Undecorated) ∷ plain_row (spv.Pointer 12 6 (Decorated 0)) ∷ [])
+rows : map encode_row (plain_row spv.Bool ∷ plain_row (spv.Int 32) ∷ plain_row (spv.Vector 1 3) ∷ plain_row (spv.Array 2 Specialization (Decorated 16)) ∷ plain_row (spv.Array 2 (Fixed 4) Undecorated) ∷ plain_row (spv.RuntimeArray 5 Undecorated) ∷ struct_row (spv.Struct true) 7 3 14 2 ∷ plain_row (spv.Pointer 12 6) ∷ [])
     ≡ (66 ∷ 0 ∷ 0 ∷ 0 ∷ 0 ∷ 0 ∷ [])
     ∷ (73 ∷ 32 ∷ 0 ∷ 0 ∷ 0 ∷ 0 ∷ [])
     ∷ (86 ∷ 1 ∷ 3 ∷ 0 ∷ 0 ∷ 0 ∷ [])
@@ -23,16 +22,15 @@ rows : map encode_row (plain_row spv.Bool ∷ plain_row (spv.Int 32) ∷ plain_r
     ∷ (65 ∷ 2 ∷ 0 ∷ 4 ∷ 1 ∷ 0 ∷ [])
     ∷ (82 ∷ 5 ∷ 1 ∷ 0 ∷ 0 ∷ 0 ∷ [])
     ∷ (83 ∷ 1 ∷ 7 ∷ 3 ∷ 14 ∷ 2 ∷ [])
-    ∷ (80 ∷ 12 ∷ 6 ∷ 1 ∷ 0 ∷ 0 ∷ [])
     ∷ (80 ∷ 12 ∷ 6 ∷ 0 ∷ 0 ∷ 0 ∷ [])
     ∷ []
 unfolding encode_row
 rows = refl
 
--- words that no row has: another letter, a word behind a bool, a length beside `s`, a block of 2, a refusal that D lines don't lead to (11, 15), five words, seven
-broken : map decode_row ((0 ∷ 0 ∷ 0 ∷ 0 ∷ 0 ∷ 0 ∷ []) ∷ (66 ∷ 0 ∷ 0 ∷ 0 ∷ 0 ∷ 1 ∷ []) ∷ (65 ∷ 2 ∷ 1 ∷ 4 ∷ 1 ∷ 0 ∷ []) ∷ (83 ∷ 2 ∷ 0 ∷ 0 ∷ 0 ∷ 0 ∷ []) ∷ (83 ∷ 0 ∷ 0 ∷ 0 ∷ 11 ∷ 0 ∷ []) ∷ (83 ∷ 0 ∷ 0 ∷ 0 ∷ 15 ∷ 0 ∷ []) ∷ (66 ∷ 0 ∷ 0 ∷ 0 ∷ 0 ∷ []) ∷ (66 ∷ 0 ∷ 0 ∷ 0 ∷ 0 ∷ 0 ∷ 0 ∷ []) ∷ [])
-    ≡ row.Broken ∷ row.Broken ∷ row.Broken ∷ row.Broken ∷ row.Broken ∷ row.Broken ∷ row.Broken ∷ row.Broken ∷ []
-unfolding within decode_row encode_row row_of_words row_of type_of same_words
+-- words that no row has: another letter, a word behind a bool, a length beside `s`, a block of 2, five words, seven
+broken : map decode_row ((0 ∷ 0 ∷ 0 ∷ 0 ∷ 0 ∷ 0 ∷ []) ∷ (66 ∷ 0 ∷ 0 ∷ 0 ∷ 0 ∷ 1 ∷ []) ∷ (65 ∷ 2 ∷ 1 ∷ 4 ∷ 1 ∷ 0 ∷ []) ∷ (83 ∷ 2 ∷ 0 ∷ 0 ∷ 0 ∷ 0 ∷ []) ∷ (66 ∷ 0 ∷ 0 ∷ 0 ∷ 0 ∷ []) ∷ (66 ∷ 0 ∷ 0 ∷ 0 ∷ 0 ∷ 0 ∷ 0 ∷ []) ∷ [])
+    ≡ row.Broken ∷ row.Broken ∷ row.Broken ∷ row.Broken ∷ row.Broken ∷ row.Broken ∷ []
+unfolding decode_row encode_row row_of_words row_of type_of same_words
 broken = refl
 
 indices : map decode_index ((5 ∷ 0 ∷ []) ∷ (5 ∷ 1 ∷ []) ∷ (5 ∷ 2 ∷ []) ∷ (5 ∷ []) ∷ [])

@@ -1,9 +1,8 @@
 -- Rows and indices are read back from their words, and no other words are read as one. Assumes nothing.
 use Prim.Native.Nat.{ℕ, ◌+◌, ◌*◌, ◌≤◌}
-use Prim.Native.Char.{code}
 use native.Mathlib.Omega.{arith}
-use mathlib.Core.Path.{◌≡◌, refl, sym, ap, ◌∙◌, subst}
-use mathlib.Core.Bool.{Bool, true, false, cond, false≢true}
+use mathlib.Core.Path.{◌≡◌, refl, sym, ap, ◌∙◌}
+use mathlib.Core.Bool.{Bool, true, false, cond}
 use mathlib.Core.List.{List, [], ◌∷◌, ◌++◌, append_assoc}
 use borrow.Author.Tests.{eqb-true}
 use lib.Dec.{eqb}
@@ -19,8 +18,7 @@ use Rattle.spirv.specs.declared.Index.{Index}
 use Rattle.spirv.specs.declared.Index.TheVariants.{Known, Unknown}
 use Rattle.spirv.specs.declared.IndexReading.TheVariants as index
 use Rattle.spirv.specs.Decl.{is_struct}
-use Rattle.spirv.specs.Rows.{same_words, type_words, encode_row, type_of, struct_row, plain_row, row_of, row_of_words, decode_row, row_at, lines_refusal, OfDeclaration, RowsReadBack, encode_index, index_of, decode_index, index_at, IndicesReadBack}
-use Rattle.base_arith.proofs.Bounds.{within_again, other_stays}
+use Rattle.spirv.specs.Rows.{same_words, type_words, encode_row, type_of, struct_row, plain_row, row_of, row_of_words, decode_row, row_at, OfDeclaration, RowsReadBack, encode_index, index_of, decode_index, index_at, IndicesReadBack}
 use Rattle.spirv.proofs.Words.{same_is, same_self, other_length}
 
 -- ---- rows
@@ -34,7 +32,7 @@ words_length (spv.Matrix e k) s n f o = refl
 words_length (spv.Array e k d) s n f o = refl
 words_length (spv.RuntimeArray e d) s n f o = refl
 words_length (spv.Struct b) s n f o = refl
-words_length (spv.Pointer k p d) s n f o = refl
+words_length (spv.Pointer k p) s n f o = refl
 words_length spv.Opaque s n f o = refl
 words_length spv.Unsupported s n f o = refl
 
@@ -46,7 +44,7 @@ pub row_short : (ws : List ℕ) → (length ws ≡ 6 → ⊥) → decode_row ws 
 unfolding decode_row
 row_short ws h = rw (other_length (encode_row (row_of_words ws)) ws (λ e. h (sym e ∙ row_length (row_of_words ws))))
 
-again : (t : SpvType) (s n f o : ℕ) → row_of_words (type_words t s n f o) ≡ cond (is_struct t) (struct_row t s n (lines_refusal f) o) (plain_row t)
+again : (t : SpvType) (s n f o : ℕ) → row_of_words (type_words t s n f o) ≡ cond (is_struct t) (struct_row t s n f o) (plain_row t)
 unfolding row_of_words row_of type_of
 again spv.Bool s n f o = refl
 again (spv.Int w) s n f o = refl
@@ -61,8 +59,7 @@ again (spv.RuntimeArray e (Decorated d)) s n f o = refl
 again (spv.RuntimeArray e Undecorated) s n f o = refl
 again (spv.Struct true) s n f o = refl
 again (spv.Struct false) s n f o = refl
-again (spv.Pointer k p (Decorated d)) s n f o = refl
-again (spv.Pointer k p Undecorated) s n f o = refl
+again (spv.Pointer k p) s n f o = refl
 again spv.Opaque s n f o = refl
 again spv.Unsupported s n f o = refl
 
@@ -70,48 +67,20 @@ row_again : (r : DeclRow) → OfDeclaration r → row_of_words (encode_row r) �
 unfolding encode_row
 row_again r p = again r.ty r.start r.count r.refusal r.read ∙ go (is_struct r.ty) p.plain
   where
-    go : (b : Bool) → (b ≡ false → r ≡ plain_row r.ty) → cond b (struct_row r.ty r.start r.count (lines_refusal r.refusal) r.read) (plain_row r.ty) ≡ r
-    go true h = rw p.lines
+    go : (b : Bool) → (b ≡ false → r ≡ plain_row r.ty) → cond b (struct_row r.ty r.start r.count r.refusal r.read) (plain_row r.ty) ≡ r
+    go true h = refl
     go false h = sym (h refl)
 
--- the row that six words may hold is a declaration's
-struct_tag : (tag a b c d e : ℕ) → is_struct (type_of tag a b c d e) ≡ false → eqb tag (code "S") ≡ false
-unfolding type_of
-struct_tag tag a b c d e h = by (eqb tag (code "S")) refl
-  where
-    by : (t : Bool) → eqb tag (code "S") ≡ t → t ≡ false
-    by true g = absurd (false≢true (sym h ∙ ap (λ (k : ℕ). is_struct (type_of k a b c d e)) (eqb-true tag (code "S") g)))
-    by false g = refl
-
-row_declared : (tag a b c d e : ℕ) → OfDeclaration (row_of tag a b c d e)
-unfolding row_of
-row_declared tag a b c d e = by (eqb tag (code "S")) (struct_tag tag a b c d e)
-  where
-    by : (t : Bool) → (is_struct (type_of tag a b c d e) ≡ false → t ≡ false)
-        → OfDeclaration (cond t (struct_row (type_of tag a b c d e) b c (lines_refusal d) e) (plain_row (type_of tag a b c d e)))
-    by true h = record { plain = λ i. absurd (false≢true (sym (h i))); lines = within_again 12 14 0 d }
-    by false h = record { plain = λ i. refl; lines = other_stays 12 14 0 }
-
--- what words that are read say
-pub record RowIs (ws : List ℕ) (r : DeclRow) : Type 0 where
-  pub words : encode_row (row_of_words ws) ≡ ws
-  pub value : row_of_words ws ≡ r
-
-row_is : (ws : List ℕ) (r : DeclRow) → decode_row ws ≡ row.Row r → RowIs ws r
-unfolding decode_row
-row_is ws r e = go (same_words (encode_row (row_of_words ws)) ws) (same_is (encode_row (row_of_words ws)) ws) e
-  where
-    go : (b : Bool) → (b ≡ true → encode_row (row_of_words ws) ≡ ws) → cond b (row.Row (row_of_words ws)) row.Broken ≡ row.Row r → RowIs ws r
-    go true h e = record { words = h refl; value = cc }
-    go false h e = absurd (let z : ◌≡◌ {A = ℕ} 0 1 = cc in omega arith)
-
 pub rows_read_back : RowsReadBack
-unfolding decode_row row_of_words
+unfolding decode_row
 rows_read_back = record {
   back = λ r p. rw (row_again r p, same_self (encode_row r));
-  only = λ ws r e. let i = row_is ws r e in sym i.words ∙ ap encode_row i.value;
-  declared = λ ws r e. subst OfDeclaration (row_is ws r e).value (row_declared _ _ _ _ _ _);
+  only = λ ws r e. go ws r (same_words (encode_row (row_of_words ws)) ws) (same_is (encode_row (row_of_words ws)) ws) e;
 }
+  where
+    go : (ws : List ℕ) (r : DeclRow) (b : Bool) → (b ≡ true → encode_row (row_of_words ws) ≡ ws) → cond b (row.Row (row_of_words ws)) row.Broken ≡ row.Row r → ws ≡ encode_row r
+    go ws r true h e = let q : row_of_words ws ≡ r = cc in sym (h refl) ∙ ap encode_row q
+    go ws r false h e = absurd (let z : ◌≡◌ {A = ℕ} 0 1 = cc in omega arith)
 
 -- a part of a list, after it was stored
 pub part_stored : (l : List ℕ) (at n : ℕ) (ws : List ℕ) → length ws ≡ n → at + n ≤ length l → take n (drop at (sets l at ws)) ≡ ws

@@ -9,8 +9,8 @@ use borrow.Author.Tests.{eq-eqb, ne_eqb, eqb-true}
 use lib.Dec.{eqb}
 use lib.ListN.{length, get_or, take, drop, set, length-set, length-take, length-drop}
 use lib.Seq.{sets, take-suc, length-take-le, drop-cons}
-use Rattle.base_arith.proofs.Stores.{sets_append, sets_past}
-use Rattle.base_arith.proofs.Results.{first_true, second_true}
+use Rattle.arith.proofs.Stores.{sets_append, sets_past}
+use Rattle.arith.proofs.Results.{first_true, second_true}
 use Rattle.spirv.specs.Rows.{same_words}
 
 -- ---- stores

@@ -1,11 +1,9 @@
 -- Document 01, "The sheet": a type with what its lines say of it; and "From heap trees to tables": one record a type, filled from type 0 upward.
 use Rattle.std.specs.Prelude.{ℕ, Bool, true, false, cond, ltb, eqb, get_or}
 use mathlib.Core.List.{List, [], ◌∷◌, ◌++◌}
-use Rattle.base_arith.specs.Refusals.{Result, ok, refused, no_pointer}
+use Rattle.arith.specs.Refusals.{Result, ok, refused, no_pointer}
 use Rattle.spirv.specs.declared.SpvType.{SpvType}
 use Rattle.spirv.specs.declared.SpvType.TheVariants as spv
-use Rattle.spirv.specs.declared.Stride.{Stride}
-use Rattle.spirv.specs.declared.Stride.TheVariants.{Undecorated}
 use Rattle.spirv.specs.declared.Decoration.{Decoration}
 use Rattle.spirv.specs.declared.Decoration.TheVariants.{RowMajor, Offset}
 use Rattle.spirv.specs.declared.MemberDecoration.{MemberDecoration}
@@ -29,7 +27,7 @@ is_struct (spv.Matrix c n) = false
 is_struct (spv.Array e n s) = false
 is_struct (spv.RuntimeArray e s) = false
 is_struct (spv.Struct b) = true
-is_struct (spv.Pointer c p s) = false
+is_struct (spv.Pointer c p) = false
 is_struct spv.Opaque = false
 is_struct spv.Unsupported = false
 
@@ -43,23 +41,9 @@ pointee_of (spv.Matrix column len) = refused no_pointer
 pointee_of (spv.Array elem len stride) = refused no_pointer
 pointee_of (spv.RuntimeArray elem stride) = refused no_pointer
 pointee_of (spv.Struct block) = refused no_pointer
-pointee_of (spv.Pointer class pointee stride) = ok pointee
+pointee_of (spv.Pointer class pointee) = ok pointee
 pointee_of spv.Opaque = refused no_pointer
 pointee_of spv.Unsupported = refused no_pointer
-
--- the stride that a P carries (document 02, b); another type carries none
-abbrev pub pointer_stride : SpvType → Stride
-pointer_stride spv.Bool = Undecorated
-pointer_stride (spv.Int width) = Undecorated
-pointer_stride (spv.Float width) = Undecorated
-pointer_stride (spv.Vector elem len) = Undecorated
-pointer_stride (spv.Matrix column len) = Undecorated
-pointer_stride (spv.Array elem len stride) = Undecorated
-pointer_stride (spv.RuntimeArray elem stride) = Undecorated
-pointer_stride (spv.Struct block) = Undecorated
-pointer_stride (spv.Pointer class pointee stride) = stride
-pointer_stride spv.Opaque = Undecorated
-pointer_stride spv.Unsupported = Undecorated
 
 -- ---- decorations
 

@@ -1,8 +1,6 @@
 -- The words that hold a declared type and an index: a row of six, the first of which is the letter of the type's line, and two for an index.
 use Rattle.std.specs.Prelude.{ℕ, ◌*◌, ◌≡◌, Bool, true, false, cond, ◌&&◌, List, [], ◌∷◌, eqb, get_or, take, drop}
 use Prim.Native.Char.{code}
-use Rattle.base_arith.specs.Refusals.{row_major, offsets_missing}
-use Rattle.base_arith.specs.Numbers.{within}
 use Rattle.spirv.specs.declared.Length.{Length}
 use Rattle.spirv.specs.declared.Length.TheVariants.{Fixed, Specialization}
 use Rattle.spirv.specs.declared.Stride.{Stride}
@@ -61,7 +59,7 @@ type_words (spv.Array elem len stride) start count refusal read =
     six (code "A") elem (length_kind len) (length_value len) (stride_kind stride) (stride_value stride)
 type_words (spv.RuntimeArray elem stride) start count refusal read = six (code "R") elem (stride_kind stride) (stride_value stride) 0 0
 type_words (spv.Struct block) start count refusal read = six (code "S") (flag_word block) start count refusal read
-type_words (spv.Pointer class pointee stride) start count refusal read = six (code "P") class pointee (stride_kind stride) (stride_value stride) 0
+type_words (spv.Pointer class pointee) start count refusal read = six (code "P") class pointee 0 0 0
 type_words spv.Opaque start count refusal read = six (code "O") 0 0 0 0 0
 type_words spv.Unsupported start count refusal read = six (code "U") 0 0 0 0 0
 
@@ -87,7 +85,7 @@ type_of tag a b c d e =
     (cond (eqb tag (code "A")) (spv.Array a (length_of b c) (stride_of d e))
     (cond (eqb tag (code "R")) (spv.RuntimeArray a (stride_of b c))
     (cond (eqb tag (code "S")) (spv.Struct (eqb a 1))
-    (cond (eqb tag (code "P")) (spv.Pointer a b (stride_of c d))
+    (cond (eqb tag (code "P")) (spv.Pointer a b)
     (cond (eqb tag (code "O")) spv.Opaque spv.Unsupported)))))))))
 
 abbrev pub struct_row : SpvType → (start count refusal read : ℕ) → DeclRow
@@ -96,12 +94,8 @@ struct_row t start count refusal read = record { ty = t; start = start; count = 
 abbrev pub plain_row : SpvType → DeclRow
 plain_row t = struct_row t 0 0 0 0
 
--- D lines lead to 12, 13 or 14, or to no refusal
-abbrev pub lines_refusal : ℕ → ℕ
-lines_refusal n = within row_major offsets_missing 0 n
-
 unfoldable pub row_of : (tag a b c d e : ℕ) → DeclRow
-row_of tag a b c d e = cond (eqb tag (code "S")) (struct_row (type_of tag a b c d e) b c (lines_refusal d) e) (plain_row (type_of tag a b c d e))
+row_of tag a b c d e = cond (eqb tag (code "S")) (struct_row (type_of tag a b c d e) b c d e) (plain_row (type_of tag a b c d e))
 
 unfoldable pub row_of_words : List ℕ → DeclRow
 row_of_words ws = row_of (get_or ws 0 0) (get_or ws 1 0) (get_or ws 2 0) (get_or ws 3 0) (get_or ws 4 0) (get_or ws 5 0)
@@ -113,16 +107,14 @@ decode_row ws = cond (same_words (encode_row (row_of_words ws)) ws) (row.Row (ro
 unfoldable pub row_at : List ℕ → ℕ → RowReading
 row_at table i = decode_row (take 6 (drop (6 * i) table))
 
--- a row of a declaration: what is said of structs is 0 for other types, and a struct's refusal is one that D lines lead to
+-- a row of a declaration: what is said of structs is 0 for other types
 pub record OfDeclaration (r : DeclRow) : Type 0 where
   pub plain : is_struct r.ty ≡ false → r ≡ plain_row r.ty
-  pub lines : lines_refusal r.refusal ≡ r.refusal
 
--- each such row is read back from its words; no other words are read as a row, and no other rows are read
+-- each such row is read back from its words, and no other words are read as a row
 pub record RowsReadBack : Type 0 where
   pub back : (r : DeclRow) → OfDeclaration r → decode_row (encode_row r) ≡ row.Row r
   pub only : (ws : List ℕ) (r : DeclRow) → decode_row ws ≡ row.Row r → ws ≡ encode_row r
-  pub declared : (ws : List ℕ) (r : DeclRow) → decode_row ws ≡ row.Row r → OfDeclaration r
 
 -- ---- an index
 

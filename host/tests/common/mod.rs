@@ -1,15 +1,10 @@
 //! What the tests share: sheets, a stream of numbers, and lists between guards.
 #![allow(dead_code)]
-use qptr::{calls, Lookup, Refusal, Table};
-use std::cell::Cell;
+use qptr::{Refusal, Table};
 use std::fmt::Debug;
 
 pub const EXAMPLE: &[u8] = include_bytes!("../../../sheets/example.sheet");
 pub const LIGHTS: &[u8] = include_bytes!("../../../sheets/lights.sheet");
-
-/// Where the rows of layouts begin in a table, and the words of a row.
-pub const LAYOUTS_AT: usize = 4615;
-pub const ROW_WORDS: usize = 11;
 
 macro_rules! answered {
     ($($name:literal),*) => {
@@ -18,7 +13,7 @@ macro_rules! answered {
 }
 
 /// The sheets for people, with their answers.
-pub const SHEETS: [(&[u8], &[u8]); 7] = answered!("example", "lights", "frame", "bodies", "materials", "palette", "vertices");
+pub const SHEETS: [(&[u8], &[u8]); 6] = answered!("example", "lights", "frame", "bodies", "materials", "palette");
 
 /// The table of types under the scalar setting.
 pub fn types(lines: &str) -> Table {
@@ -120,22 +115,3 @@ pub fn full<T: Copy + PartialEq + Debug>(room: usize, fills: [T; 2], call: &dyn 
 
 pub const BYTES: [u8; 2] = [0xa5, 0x3c];
 pub const WORDS: [u32; 2] = [0xa5a5_a5a5, 0x3c3c_3c3c];
-
-/// A lookup into a list of so many places, full as above; the end of an array writes none, and a list of no places gets it all the same.
-pub fn looked(table: &[u32], ty: u32, start: u32, end: u32, room: usize) -> Result<Lookup<Vec<u32>>, u32> {
-    let at_end = Cell::new(false);
-    let found = full(room, WORDS, &|out| {
-        calls::find_components(table, ty, start, end, out).map(|answer| {
-            at_end.set(answer == Lookup::End);
-            if let Lookup::Found(count) = answer { count } else { 0 }
-        })
-    });
-    if at_end.get() {
-        for room in 0..3 {
-            let mut lent = Guarded::of(&vec![WORDS[0]; room], WORDS[0]);
-            assert_eq!(calls::find_components(table, ty, start, end, lent.lend()), Ok(Lookup::End));
-            lent.kept(0);
-        }
-    }
-    found.map(|words| if at_end.get() { Lookup::End } else { Lookup::Found(words) })
-}

@@ -7,14 +7,14 @@ use mathlib.Core.Logic.{inl, inr}
 use lib.ListN.{length}
 use lib.Seq.{length-take-le}
 use borrow.Author.Rules.{rules}
-use Rattle.answer.specs.Lines.{Source}
-use Rattle.answer_all.specs.Listing.{Fills, Moved}
-use Rattle.answer_all.specs.declared.Filled.{Filled}
+use Rattle.answers.specs.Lines.{Source}
+use Rattle.listing.specs.Listing.{Fills, Moved}
+use Rattle.listing.specs.declared.Filled.{Filled}
 use Rattle.lay.proofs.write_answers.Statement.{statement}
 use Rattle.lay.proofs.write_answers.Tie as tie
 
-goes_on_lem : {x : Source} {sheet : List ℕ} {from : ℕ} {r : Filled} {old new : List ℕ} → Fills x sheet from r old new → from < r.next → length sheet - r.next < length sheet - from
-goes_on_lem {x} {sheet} {from} {r} f less = by f.moved
+goes_on : {x : Source} {sheet : List ℕ} {from : ℕ} {r : Filled} {old new : List ℕ} → Fills x sheet from r old new → from < r.next → length sheet - r.next < length sheet - from
+goes_on {x} {sheet} {from} {r} f less = by f.moved
   where
     by : Moved sheet from r.next r.bytes → length sheet - r.next < length sheet - from
     by (inl (same, none)) = omega arith
@@ -60,7 +60,7 @@ returns-3 : tie.Need-returns-3 invariant-loop decreases-loop
 returns-3 c = search rules
 
 loop-less : tie.Need-loop-smaller invariant-loop decreases-loop
-loop-less c = goes_on_lem c.before.before.before.before.before.before.before.before.before.fill.ensures c.if3.false
+loop-less c = goes_on c.before.before.before.before.before.before.before.before.before.fill.ensures c.if3.false
 
 loop-again : tie.Need-loop-preserved invariant-loop decreases-loop
 loop-again c = search rules

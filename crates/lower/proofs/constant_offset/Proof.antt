@@ -5,8 +5,8 @@ use lib.IntN.{ℤ, pos, ◌*ℤ◌}
 use mir.Syntax.{w32}
 use mir.ValLaws.{to_z-of_z}
 use borrow.Author.Tests.{not-true, not-false}
-use Rattle.base_arith.specs.Numbers.{signed}
-use Rattle.base_arith.specs.Checked.{checked_i32}
+use Rattle.arith.specs.Numbers.{signed}
+use Rattle.arith.specs.Checked.{checked_i32}
 use Rattle.lower.specs.Steps.{in_bound, constant_offset}
 use Rattle.lower.specs.InCode.{as_constant}
 use Rattle.lower.proofs.InCode.{out_of_bound, far_stride, near_product, far_product}
@@ -50,13 +50,13 @@ returns-3 c = rw c.enum_told.given.1
 
 returns-4 : tie.Need-returns-4
 returns-4 c =
-    let e = ap (λ (x : ℤ). checked_i32 (pos c.before.before.before.before.before.before.before.before.before.before.before.before.args.stride *ℤ x)) (sym (to_z-of_z w32 _ (record { sfits = c.before.before.before.before.as_signed.type-inv }) ∙ c.before.before.before.before.as_signed.ensures)) ∙ sym c.before.before.before.product-i32.ensures ∙ c.before.z.given.1 in
+    let e = ap (λ (x : ℤ). checked_i32 (pos c.before.before.before.before.before.before.before.before.before.before.before.before.args.stride *ℤ x)) (sym (to_z-of_z w32 _ (record { sfits = c.before.before.before.before.as-signed.type-inv }) ∙ c.before.before.before.before.as-signed.ensures)) ∙ sym c.before.before.before.product-i32.ensures ∙ c.before.z.given.1 in
     rw (to_z-of_z w32 c.before.z.given.0.0 (record { sfits = c.known-told2.given.0.1 }), c.before.before.before.before.before.before.before.before.before.before.i.given.1)
     (near_product _ _ _ (ap (λ (x : ℕ). in_bound x (signed c.before.before.before.before.before.before.before.before.before.before.i.given.0.0)) (sym c.before.before.before.before.before.before.before.before.bound_of.ensures) ∙ sym c.before.before.before.before.before.before.before.in-bound.ensures ∙ not-false _ c.before.before.before.before.before.before.if1.false) c.before.before.before.before.before.if2.false _ e)
 
 returns-5 : tie.Need-returns-5
 returns-5 c =
-    let e = ap (λ (x : ℤ). checked_i32 (pos c.before.before.before.before.before.before.before.before.before.before.before.args.stride *ℤ x)) (sym (to_z-of_z w32 _ (record { sfits = c.before.before.before.as_signed.type-inv }) ∙ c.before.before.before.as_signed.ensures)) ∙ sym c.before.before.product-i32.ensures ∙ c.enum-told2.given.1 in
+    let e = ap (λ (x : ℤ). checked_i32 (pos c.before.before.before.before.before.before.before.before.before.before.before.args.stride *ℤ x)) (sym (to_z-of_z w32 _ (record { sfits = c.before.before.before.as-signed.type-inv }) ∙ c.before.before.before.as-signed.ensures)) ∙ sym c.before.before.product-i32.ensures ∙ c.enum-told2.given.1 in
     rw c.before.before.before.before.before.before.before.before.before.i.given.1 (far_product _ _ _ (ap (λ (x : ℕ). in_bound x (signed c.before.before.before.before.before.before.before.before.before.i.given.0.0)) (sym c.before.before.before.before.before.before.before.bound_of.ensures) ∙ sym c.before.before.before.before.before.before.in-bound.ensures ∙ not-false _ c.before.before.before.before.before.if1.false) c.before.before.before.before.if2.false e)
 
 pub constant-offset-spec : {M : Type 1} → statement M

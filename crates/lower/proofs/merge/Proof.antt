@@ -3,7 +3,7 @@ use mathlib.Core.Path.{◌≡◌, sym, ap, ◌∙◌}
 use lib.IntN.{◌+ℤ◌}
 use mir.Syntax.{w32}
 use mir.ValLaws.{to_z-of_z}
-use Rattle.base_arith.specs.Checked.{checked_i32}
+use Rattle.arith.specs.Checked.{checked_i32}
 use Rattle.lower.proofs.InCode.{zero_dropped, first_waits, next_added, next_far, zero_bits, other_bits}
 use borrow.Author.Rules.{rules}
 use Rattle.lower.proofs.merge.Statement.{statement}

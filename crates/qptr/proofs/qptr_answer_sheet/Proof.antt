@@ -10,7 +10,7 @@ answer-sheet-requires : tie.Need-answer-sheet-requires
 answer-sheet-requires c κs = search rules
 
 code-requires : tie.Need-code-requires
-code-requires c κs = small (search rules) c.before.before.answer_sheet.ensures
+code-requires c κs = small (search rules) c.before.before.answer-sheet.ensures
 
 same_length : tie.Need-same-length
 same_length c = search rules
@@ -18,7 +18,7 @@ same_length c = search rules
 returns : tie.Need-returns
 returns c =
     rw (to_z-of_z w64 c.code.result (record { sfits = c.code.type-inv }))
-    (told c.before.before.before.answer_sheet.ensures c.code.ensures)
+    (told c.before.before.before.answer-sheet.ensures c.code.ensures)
 
 pub qptr-answer-sheet-spec : {M : Type 1} → statement M
 qptr-answer-sheet-spec =

@@ -10,13 +10,13 @@ local-variable-requires : tie.Need-local-variable-requires
 local-variable-requires c κs = search rules
 
 code-requires : tie.Need-code-requires
-code-requires c κs = small (search rules) c.before.before.local_variable_lem.ensures
+code-requires c κs = small (search rules) c.before.before.local-variable.ensures
 
 same_length : tie.Need-same-length
 same_length c = search rules
 
 returns : tie.Need-returns
-returns c = rw (to_z-of_z w64 c.code.result (record { sfits = c.code.type-inv })) (got c.before.before.before.local_variable_lem.ensures c.code.ensures)
+returns c = rw (to_z-of_z w64 c.code.result (record { sfits = c.code.type-inv })) (got c.before.before.before.local-variable.ensures c.code.ensures)
 
 pub qptr-local-variable-spec : {M : Type 1} → statement M
 qptr-local-variable-spec = tie.close (tie.spec local-variable-requires code-requires same_length returns)

@@ -10,13 +10,13 @@ lower-chain-requires : tie.Need-lower-chain-requires
 lower-chain-requires c κs = search rules
 
 walk-code-requires : tie.Need-walk-code-requires
-walk-code-requires c κs = small_walk _ _ _ _ c.before.before.before.before.before.before.before.args.steps.now (search rules) c.before.before.lower_chain_lem.ensures
+walk-code-requires c κs = small_walk _ _ _ _ c.before.before.before.before.before.before.before.args.steps.now (search rules) c.before.before.lower-chain.ensures
 
 same_length : tie.Need-same-length
 same_length c = search rules
 
 returns : tie.Need-returns
-returns c = rw (to_z-of_z w64 c.Walk-Code.result (record { sfits = c.Walk-Code.type-inv })) (chain_lowered _ _ _ _ c.before.before.before.before.before.before.before.before.args.steps.now c.before.before.before.lower_chain_lem.ensures c.Walk-Code.ensures)
+returns c = rw (to_z-of_z w64 c.Walk-Code.result (record { sfits = c.Walk-Code.type-inv })) (chain_lowered _ _ _ _ c.before.before.before.before.before.before.before.before.args.steps.now c.before.before.before.lower-chain.ensures c.Walk-Code.ensures)
 
 pub qptr-lower-chain-spec : {M : Type 1} → statement M
 qptr-lower-chain-spec =

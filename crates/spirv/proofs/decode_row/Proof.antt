@@ -41,11 +41,11 @@ same-words-requires c κs = search rules
 
 returns-2 : tie.Need-returns-2
 unfolding decode_row row_of_words
-returns-2 c = rw (← c.before.before.before.before.row_of.ensures, ← c.before.before.before.encode-row.ensures, sym c.before.same_words_lem.ensures ∙ c.if2.true)
+returns-2 c = rw (← c.before.before.before.before.row_of.ensures, ← c.before.before.before.encode-row.ensures, sym c.before.same-words.ensures ∙ c.if2.true)
 
 returns-3 : tie.Need-returns-3
 unfolding decode_row row_of_words
-returns-3 c = rw (← c.before.before.before.before.row_of.ensures, ← c.before.before.before.encode-row.ensures, sym c.before.same_words_lem.ensures ∙ c.if2.false)
+returns-3 c = rw (← c.before.before.before.before.row_of.ensures, ← c.before.before.before.encode-row.ensures, sym c.before.same-words.ensures ∙ c.if2.false)
 
 pub decode-row-spec : {M : Type 1} → statement M
 decode-row-spec =

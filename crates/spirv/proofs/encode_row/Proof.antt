@@ -52,12 +52,6 @@ flag-word-requires c κs = search rules
 enum-known-ty-8 : tie.Need-enum-known-ty-8
 enum-known-ty-8 c = search rules
 
-stride-kind-requires-3 : tie.Need-stride-kind-requires-3
-stride-kind-requires-3 c κs = search rules
-
-stride-value-requires-3 : tie.Need-stride-value-requires-3
-stride-value-requires-3 c κs = search rules
-
 enum-told-2 : tie.Need-enum-told-2
 enum-told-2 c = search rules
 
@@ -98,7 +92,7 @@ returns-8 c = rw (c.flag_word.ensures, c.before.before.ty7.given.1)
 
 returns-9 : tie.Need-returns-9
 unfolding encode_row
-returns-9 c = rw (c.stride-value3.ensures, c.before.stride-kind3.ensures, c.before.before.before.ty8.given.1)
+returns-9 c = rw c.before.ty8.given.1
 
 returns-10 : tie.Need-returns-10
 unfolding encode_row
@@ -128,8 +122,6 @@ encode-row-spec =
     enum-known-ty-7
     flag-word-requires
     enum-known-ty-8
-    stride-kind-requires-3
-    stride-value-requires-3
     enum-told-2
     enum-told-3
     returns

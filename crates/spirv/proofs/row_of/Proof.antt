@@ -8,16 +8,13 @@ use Rattle.spirv.proofs.row_of.Tie as tie
 type-of-requires : tie.Need-type-of-requires
 type-of-requires c κs = search rules
 
-within-requires : tie.Need-within-requires
-within-requires c κs = search rules
-
 returns : tie.Need-returns
 unfolding row_of
-returns c = rw (eq-eqb _ _ c.before.if1.true, c.before.before.type-of.ensures, c.within.ensures)
+returns c = rw (eq-eqb _ _ c.if1.true, c.before.type-of.ensures)
 
 returns-2 : tie.Need-returns-2
 unfolding row_of
 returns-2 c = rw (ne_eqb _ _ c.if1.false, c.before.type-of.ensures)
 
 pub row-of-spec : {M : Type 1} → statement M
-row-of-spec = tie.close (tie.spec type-of-requires within-requires returns returns-2)
+row-of-spec = tie.close (tie.spec type-of-requires returns returns-2)

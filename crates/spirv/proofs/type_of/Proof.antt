@@ -14,9 +14,6 @@ stride-of-requires c κs = search rules
 stride-of-requires-2 : tie.Need-stride-of-requires-2
 stride-of-requires-2 c κs = search rules
 
-stride-of-requires-3 : tie.Need-stride-of-requires-3
-stride-of-requires-3 c κs = search rules
-
 returns : tie.Need-returns
 unfolding type_of
 returns c = rw c.match.keys1
@@ -51,7 +48,7 @@ returns-8 c = rw c.match.keys8
 
 returns-9 : tie.Need-returns-9
 unfolding type_of
-returns-9 c = rw (c.before.match.keys9, c.stride-of3.ensures)
+returns-9 c = rw c.match.keys9
 
 returns-10 : tie.Need-returns-10
 unfolding type_of
@@ -68,7 +65,6 @@ type-of-spec =
     length-of-requires
     stride-of-requires
     stride-of-requires-2
-    stride-of-requires-3
     returns
     returns-2
     returns-3

@@ -1,4 +1,4 @@
--- `qptr::step_structs::qptr_lower_chain_steps` meets its contract: a walk of its MIR, by hand. It hands the slice to `qptr_step_structs::lower_access_chain`, at the borrow's own lifetime, share and ghost name, and gives it up for good (`gave_slice`).
+-- `qptr::step_structs::qptr_lower_chain_steps` meets its contract: a walk of its MIR, by hand. It hands the slice to `recorded::lower_access_chain`, at the borrow's own lifetime, share and ghost name, and gives it up for good (`gave_slice`).
 -- All that it knows of the callee is that it meets its contract.
 -- Assumes nothing.
 use mathlib.Core.Path.{◌≡◌, refl}
@@ -38,14 +38,14 @@ use denote.Triple.Clauses.{ensured, lasts, Lasts}
 use denote.Triple.Table.{entered, cited}
 use denote.Triple.Walked.{says, Stays, gave_slice, stay_none, stay_none_slice, walk_of, AllGo, Goes-gave_slice, Goes-none, Goes-none_slice, Walks, ends_at, walked, walk_Meets}
 use denote.Exit.{yes}
-use Rattle.qptr_chain.specs.Chains.{chain_in}
-use Rattle.qptr_step_structs.specs.declared.QPtrChainStep.{QPtrChainStep}
-use Rattle.qptr_step_structs.specs.Records.{Recorded}
-use Rattle.qptr_step_structs.proofs.Element.{Row}
-use Rattle.qptr_step_structs.specs.contracts.lower_access_chain as lower
-use Rattle.qptr_step_structs.proofs.lower_access_chain.Symbol as lower-def
-use Rattle.qptr_step_structs.proofs.lower_access_chain.Symbol.{name as #qptr-step-structs·lower-access-chain}
-use Rattle.qptr_step_structs.proofs.lower_access_chain.Met as lower-thm
+use Rattle.tabled.specs.Chains.{chain_in}
+use Rattle.recorded.specs.declared.QPtrChainStep.{QPtrChainStep}
+use Rattle.recorded.specs.Records.{Recorded}
+use Rattle.recorded.proofs.Element.{Row}
+use Rattle.recorded.specs.contracts.lower_access_chain as lower
+use Rattle.recorded.proofs.lower_access_chain.Symbol as lower-def
+use Rattle.recorded.proofs.lower_access_chain.Symbol.{name as #recorded·lower-access-chain}
+use Rattle.recorded.proofs.lower_access_chain.Met as lower-thm
 use Rattle.qptr.specs.contracts.step_structs.qptr_lower_chain_steps.Key.{name as #qptr·qptr-lower-chain-steps}
 use Rattle.qptr.specs.contracts.step_structs.qptr_lower_chain_steps as f
 use Rattle.qptr.proofs.step_structs.qptr_lower_chain_steps.Statement as stated
@@ -131,7 +131,7 @@ module _ {M : Type 1} {𝓤 : Ura M} (𝓛 : Logic 𝓤) (at_mem : Memory → SP
         owned ! u32 (Is u32) (uint_Makes 𝓛 w32) op _ (refl, op_fits) $ fjoin ! $ move ! (1 ∷ 0 ∷ []) $ fjoin ! $ frame ! $
         owned ! (SInt w64) (Is (SInt w64)) (sint_Makes 𝓛 w64) z _ z-is $ done !
 
-    walk : (𝓣 : Tables 𝓤 H) → Triple 𝓤 (𝓣.C #qptr-step-structs·lower-access-chain) Lower → length table.now < 2 ^ 64 → length indices.now < 2 ^ 64
+    walk : (𝓣 : Tables 𝓤 H) → Triple 𝓤 (𝓣.C #recorded·lower-access-chain) Lower → length table.now < 2 ^ 64 → length indices.now < 2 ^ 64
         → ent 𝓤 (on_entry 𝓛 f.signature (κ, (κ', tt)) (q, (q', tt)) x at) (WpFn 𝓤 H 𝓣.C 𝓣.Λ code.function passed Post)
     walk 𝓣 known words bytes =
         qed 𝓛 (Tokens ∷ ‵ (owns (ShrSlice (named 0) κ u32 ∷ u32 ∷ u32 ∷ ShrSlice (named 0) κ u8 ∷ MutSlice (named 1) κ' Row ∷ []) x at) ∷ []) ∵ enter ! 𝓣.C 𝓣.Λ code.function passed _ $
@@ -158,7 +158,7 @@ module _ {M : Type 1} {𝓤 : Ura M} (𝓛 : Logic 𝓤) (at_mem : Memory → SP
         move ! (18 ∷ 19 ∷ []) $ free1 ! $ move ! (16 ∷ 17 ∷ []) $ free1 ! $ move ! (14 ∷ 15 ∷ []) $ free1 ! $ move ! (12 ∷ 13 ∷ []) $ free1 ! $ move ! (10 ∷ 11 ∷ []) $ free1 ! $ move ! (8 ∷ 9 ∷ []) $ free1 ! $ move ! (6 ∷ 7 ∷ []) $ free1 ! $ move ! (4 ∷ 5 ∷ []) $ free1 ! $ free0 ! $
         by ! (exits z w z-is ws.0 e l)))))))))))))))
 
-  steps_walks : (𝓣 : Tables 𝓤 H) → Triple 𝓤 (𝓣.C #qptr-step-structs·lower-access-chain) Lower → Walks 𝓛 f.ended stayed (WpFn 𝓤 H 𝓣.C 𝓣.Λ code.function) (f.clauses 𝓛 at_mem run)
+  steps_walks : (𝓣 : Tables 𝓤 H) → Triple 𝓤 (𝓣.C #recorded·lower-access-chain) Lower → Walks 𝓛 f.ended stayed (WpFn 𝓤 H 𝓣.C 𝓣.Λ code.function) (f.clauses 𝓛 at_mem run)
   steps_walks 𝓣 known = walked 𝓛 f.ended stayed (f.clauses 𝓛 at_mem run) (WpFn 𝓤 H 𝓣.C 𝓣.Λ code.function)
       (λ κs. (shr_slice_vals, (uint_vals w32, (uint_vals w32, (shr_slice_vals, (shr_slice_vals, tt))))))
       (λ κs. (shr_slice_Tells (named 0) κs.0 u32, (uint_Tells w32, (uint_Tells w32, (shr_slice_Tells (named 0) κs.0 u8, (mut_slice_Tells (named 1) κs.1.0 Row, tt))))))
@@ -172,7 +172,7 @@ module _ {M : Type 1} {𝓤 : Ura M} (𝓛 : Logic 𝓤) (at_mem : Memory → SP
     (Goes-none 𝓛 2 (λ _. u32) yes (λ κs x f. refl), (Goes-none 𝓛 2 (λ _. u32) yes (λ κs x f. refl), (Goes-none_slice 𝓛 2 (0 ∷ []) tt (plain (λ _. u8)) yes, (Goes-gave_slice 𝓛 2 1 tt (plain (λ _. Row)), tt)))),
   )
 
-  steps_meets : (𝓣 : Tables 𝓤 H) → Triple 𝓤 (𝓣.C #qptr-step-structs·lower-access-chain) Lower → Meets 𝓛 f.signature (WpFn 𝓤 H 𝓣.C 𝓣.Λ code.function) (f.spec 𝓛 at_mem run)
+  steps_meets : (𝓣 : Tables 𝓤 H) → Triple 𝓤 (𝓣.C #recorded·lower-access-chain) Lower → Meets 𝓛 f.signature (WpFn 𝓤 H 𝓣.C 𝓣.Λ code.function) (f.spec 𝓛 at_mem run)
   steps_meets 𝓣 known = walk_Meets 𝓛 f.ended stayed goes (f.clauses 𝓛 at_mem run) (WpFn 𝓤 H 𝓣.C 𝓣.Λ code.function) (WpFn-mono 𝓤 H 𝓛.laws 𝓣 code.function) (steps_walks 𝓣 known)
 
 pub qptr-lower-chain-steps-spec : {M : Type 1} → stated.statement M
@@ -181,4 +181,4 @@ qptr-lower-chain-steps-spec 𝓤 𝓛 𝓜 𝓡 =
     entered 𝓤 𝓛.H (triple_of 𝓛 f.signature (f.spec 𝓛 𝓜.mem 𝓡.run))
     (tables 𝓤 𝓛.H 𝓜 𝓡 code.env).C (tables 𝓤 𝓛.H 𝓜 𝓡 code.env).Λ #qptr·qptr-lower-chain-steps code.function (code.unfolded 𝓤 𝓛.H 𝓜 𝓡)
     (steps_meets 𝓛 𝓜.mem 𝓡.run (tables_of 𝓤 𝓛.H 𝓜 (tables 𝓤 𝓛.H 𝓜 𝓡 code.env))
-    (cited 𝓤 𝓛.H (triple_of 𝓛 lower.signature (lower.spec 𝓛 𝓜.mem 𝓡.run)) 𝓜 𝓡 code.env #qptr-step-structs·lower-access-chain lower-def.routine code.calls-qptr-step-structs::lower-access-chain (lower-thm.met 𝓤 𝓛 𝓜 𝓡)))
+    (cited 𝓤 𝓛.H (triple_of 𝓛 lower.signature (lower.spec 𝓛 𝓜.mem 𝓡.run)) 𝓜 𝓡 code.env #recorded·lower-access-chain lower-def.routine code.calls-recorded::lower-access-chain (lower-thm.met 𝓤 𝓛 𝓜 𝓡)))

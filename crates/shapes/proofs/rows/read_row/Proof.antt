@@ -5,8 +5,7 @@ use native.Mathlib.Nat.{add-sub_cancel_left}
 use mathlib.Core.Path.{sym}
 use Prim.Native.Nat.{◌*◌}
 use borrow.Author.Rules.{rules}
-use Rattle.shapes.specs.Words.{row_words}
-use Rattle.shapes.proofs.ReadsBack.{not_a_row}
+use Rattle.shapes.proofs.ReadsBack.{not_ten}
 use Rattle.shapes.specs.Rows.{row_at}
 use Rattle.shapes.proofs.rows.read_row.Statement.{statement}
 use Rattle.shapes.proofs.rows.read_row.Tie as tie
@@ -21,8 +20,8 @@ returns : tie.Need-returns
 unfolding row_at
 returns c =
     let a = c.before.before.args in
-    let l = drop (row_words * a.i) a.table.now in
-    sym (not_a_row (take row_words l) (λ e. omega (arith, length-take row_words l, length-drop (row_words * a.i) a.table.now)))
+    let l = drop (10 * a.i) a.table.now in
+    sym (not_ten (take 10 l) (λ e. omega (arith, length-take 10 l, length-drop (10 * a.i) a.table.now)))
 
 add-answer : tie.Need-overflow-add-answer
 add-answer c = search rules

@@ -2,14 +2,14 @@
 use mathlib.Core.Bool.{true, false}
 use mathlib.Core.Path.{◌≡◌, sym}
 use borrow.Author.Rules.{rules}
-use Rattle.shapes.proofs.ReadsBack.{not_a_row}
+use Rattle.shapes.proofs.ReadsBack.{not_ten}
 use Rattle.spirv.specs.Rows.{same_words}
 use Rattle.shapes.specs.Words.{encode, answer_of, decode}
 use Rattle.shapes.proofs.words.answer.Statement.{statement}
 use Rattle.shapes.proofs.words.answer.Tie as tie
 
 returns : tie.Need-returns
-returns c = sym (not_a_row _ c.if1.true)
+returns c = sym (not_ten _ c.if1.true)
 
 answer-of-requires : tie.Need-answer-of-requires
 answer-of-requires c κs = search rules

@@ -38,15 +38,12 @@ returns-3 : tie.Need-returns-3
 unfolding answer_of
 returns-3 c = rw (← c.before.before.before.memory-of.ensures, ne_eqb _ _ c.before.before.if1.false, ne_eqb _ _ c.before.if2.false, eq-eqb _ _ c.if3.true)
 
-shared-slice-read-within : tie.Need-shared-slice-read-within
-shared-slice-read-within c = search rules
-
-within-requires : tie.Need-within-requires
-within-requires c κs = search rules
+shared-slice-read-t5 : tie.Need-shared-slice-read-t5
+shared-slice-read-t5 c = search rules
 
 returns-4 : tie.Need-returns-4
 unfolding answer_of
-returns-4 c = rw (← c.before.before.before.before.before.memory-of.ensures, ne_eqb _ _ c.before.before.before.before.if1.false, ne_eqb _ _ c.before.before.before.if2.false, ne_eqb _ _ c.before.before.if3.false, c.within.ensures)
+returns-4 c = rw (← c.before.before.before.before.memory-of.ensures, ne_eqb _ _ c.before.before.before.if1.false, ne_eqb _ _ c.before.before.if2.false, ne_eqb _ _ c.before.if3.false)
 
 pub answer-of-spec : {M : Type 1} → statement M
 answer-of-spec =
@@ -62,6 +59,5 @@ answer-of-spec =
     shared-slice-read-t15
     returns-2
     returns-3
-    shared-slice-read-within
-    within-requires
+    shared-slice-read-t5
     returns-4)

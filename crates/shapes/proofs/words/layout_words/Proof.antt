@@ -24,7 +24,7 @@ memory-words-requires c κs = search rules
 
 returns : tie.Need-returns
 unfolding encode
-returns c = rw c.before.before.l.given.1 c.handle_words_lem.ensures
+returns c = rw c.before.before.l.given.1 c.handle-words.ensures
 
 returns-2 : tie.Need-returns-2
 unfolding encode

@@ -4,9 +4,6 @@ use Rattle.shapes.specs.Words.{memory_of}
 use Rattle.shapes.proofs.words.memory_of.Statement.{statement}
 use Rattle.shapes.proofs.words.memory_of.Tie as tie
 
-shared-slice-read-data-end : tie.Need-shared-slice-read-data-end
-shared-slice-read-data-end c = search rules
-
 shared-slice-read-components-of : tie.Need-shared-slice-read-components-of
 shared-slice-read-components-of c = search rules
 
@@ -22,17 +19,17 @@ shared-slice-read-components-of-4 c = search rules
 components-of-requires : tie.Need-components-of-requires
 components-of-requires c κs = search rules
 
-shared-slice-read-t7 : tie.Need-shared-slice-read-t7
-shared-slice-read-t7 c = search rules
-
-shared-slice-read-t14 : tie.Need-shared-slice-read-t14
-shared-slice-read-t14 c = search rules
+shared-slice-read-t6 : tie.Need-shared-slice-read-t6
+shared-slice-read-t6 c = search rules
 
 shared-slice-read-t12 : tie.Need-shared-slice-read-t12
 shared-slice-read-t12 c = search rules
 
 shared-slice-read-t10 : tie.Need-shared-slice-read-t10
 shared-slice-read-t10 c = search rules
+
+shared-slice-read-t8 : tie.Need-shared-slice-read-t8
+shared-slice-read-t8 c = search rules
 
 returns : tie.Need-returns
 unfolding memory_of
@@ -42,14 +39,13 @@ pub memory-of-spec : {M : Type 1} → statement M
 memory-of-spec =
     tie.close
     (tie.spec
-    shared-slice-read-data-end
     shared-slice-read-components-of
     shared-slice-read-components-of-2
     shared-slice-read-components-of-3
     shared-slice-read-components-of-4
     components-of-requires
-    shared-slice-read-t7
-    shared-slice-read-t14
+    shared-slice-read-t6
     shared-slice-read-t12
     shared-slice-read-t10
+    shared-slice-read-t8
     returns)

@@ -1,0 +1,1 @@
+// What the tables of a sheet answer, and what the sheet does: statements and theorems, no code of its own.

@@ -1,4 +1,0 @@
-pub mod Own
-pub mod Filled
-pub mod Kept
-pub mod OfSheet

@@ -1,9 +1,0 @@
--- All that a theorem by computation unfolds of this crate and those below it, under one name. Made by tools/opened.
-use Rattle.base_arith.specs.Checked as checked
-use Rattle.base_arith.specs.Numbers as numbers
-use Rattle.base_arith.specs.Options as options
-use Rattle.base_arith.specs.Refusals as refusals
-
-unfoldable pub opened : Unit {0}
-unfolding checked.checked checked.checked_i32 numbers.fit numbers.within numbers.round_up numbers.is_power_of_two numbers.signed numbers.is_i32 options.◌>>=◌ refusals.◌>>=◌ refusals.◌>>◌ refusals.refuse◌when◌ refusals.refuse◌unless◌ refusals.in_room
-opened = tt

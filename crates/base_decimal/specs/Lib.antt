@@ -1,6 +1,0 @@
-pub mod Text
-pub mod Decimal
-pub mod Reading
-pub mod Statements
-pub mod RoundTrip
-pub mod Forms

@@ -1,0 +1,192 @@
+// Chains lowered over tables of layouts: a struct part and an array part hand the walk to each other (try_lower_access_chain of lower.rs).
+ghost use Rattle.std.specs.Prelude.{◌≡◌, [], ◌∷◌, ◌+◌, length};
+ghost use Rattle.lower.specs.Steps.{flush};
+ghost use Rattle.moves.specs.Written.{Wrote, before, in_room_behind};
+ghost use Rattle.chain.specs.Chains.{Within, Few, Ran, on_from, chain_of, room_of};
+
+use lower::{Pending, QPtrOp};
+use moves::{Move, Walk};
+use places::Place;
+
+// How far a walk gets without a step: it is refused; it ends, this offset waiting; or it gives a step behind what waits, and goes on from there.
+#[derive(Drop)]
+pub enum Run {
+    Refused(u32),
+    Ended(Pending),
+    Gives {
+        waiting: Pending,
+        place: Place,
+        step: QPtrOp,
+        at: usize,
+    },
+}
+
+// From a place on, fields and constant elements are no more than offsets that wait.
+fn go_on(
+    layouts: &[u32],
+    types: u32,
+    offsets: &[u32],
+    members: &[u32],
+    chain: &[u32],
+    from: usize,
+    l: Place,
+    p: Pending,
+) -> Run
+    requires { Within from (length chain.now) }
+    ensures { Ran layouts.now offsets.now members.now types chain.now from l p result }
+{
+    let mut at = from;
+    let mut u = l;
+    let mut q = p;
+    while at + 2 <= chain.len() {
+        let i = moves::index_of(chain[at], chain[at + 1]);
+        match moves::next_move(layouts, types, offsets, members, u, i, q) {
+            Move::Reject(e) => {
+                return Run::Refused(e);
+            }
+            Move::Onward(v, w) => {
+                u = v;
+                q = w;
+                at += 2;
+            }
+            Move::Emit(v, s) => {
+                return Run::Gives {
+                    waiting: q,
+                    place: v,
+                    step: s,
+                    at: at + 2,
+                };
+            }
+            Move::Inside(c) => {
+                return Run::Gives {
+                    waiting: q,
+                    place: Place::Memory(c),
+                    step: QPtrOp::BufferData,
+                    at,
+                };
+            }
+        }
+    }
+    Run::Ended(q)
+}
+
+// The struct part: fields, and elements at constant places, which are as fields are. It hands an index that gives a step to the array part.
+#[cycle(array_part_struct_part)]
+fn struct_part(
+    layouts: &[u32],
+    types: u32,
+    offsets: &[u32],
+    members: &[u32],
+    chain: &[u32],
+    from: usize,
+    l: Place,
+    p: Pending,
+    n: usize,
+    room: usize,
+    kinds: &mut [u32],
+    bytes: &mut [u32],
+    bounds: &mut [u32],
+    marks: &mut [u32],
+    indices: &mut [u32],
+) -> Walk
+    requires { Within from (length chain.now) × Few n (length chain.now) from l }
+    ensures { Wrote n (in_room_behind room n (on_from layouts.now offsets.now members.now types chain.now from l p)) result kinds.old bytes.old bounds.old marks.old indices.old kinds.new bytes.new bounds.new marks.new indices.new }
+{
+    match go_on(layouts, types, offsets, members, chain, from, l, p) {
+        Run::Refused(e) => Walk::Refused(e),
+        Run::Ended(q) => moves::finish(q, n, room, kinds, bytes, bounds, marks, indices),
+        Run::Gives {
+            waiting,
+            place,
+            step,
+            at,
+        } => array_part(
+            layouts, types, offsets, members, chain, at, place, waiting, step, n, room, kinds,
+            bytes, bounds, marks, indices,
+        ),
+    }
+}
+
+// The array part: what waits and a step, stored once the struct part has answered for the indices left.
+#[cycle(array_part_struct_part)]
+fn array_part(
+    layouts: &[u32],
+    types: u32,
+    offsets: &[u32],
+    members: &[u32],
+    chain: &[u32],
+    at: usize,
+    l: Place,
+    p: Pending,
+    s: QPtrOp,
+    n: usize,
+    room: usize,
+    kinds: &mut [u32],
+    bytes: &mut [u32],
+    bounds: &mut [u32],
+    marks: &mut [u32],
+    indices: &mut [u32],
+) -> Walk
+    requires { Within at (length chain.now) × Few (n + 2) (length chain.now) at l }
+    ensures { Wrote n (in_room_behind room n (before (flush p (s ∷ [])) (on_from layouts.now offsets.now members.now types chain.now at l Pending.Empty))) result kinds.old bytes.old bounds.old marks.old indices.old kinds.new bytes.new bounds.new marks.new indices.new }
+{
+    let next = moves::after(p, n) + 1;
+    let r = struct_part(
+        layouts,
+        types,
+        offsets,
+        members,
+        chain,
+        at,
+        l,
+        Pending::Empty,
+        next,
+        room,
+        kinds,
+        bytes,
+        bounds,
+        marks,
+        indices,
+    );
+    moves::prefix(r, p, s, n, kinds, bytes, bounds, marks, indices)
+}
+
+// A chain of at most 255 indices, each two words, from a place on: its steps in the five lists, or the refusal and the lists as they were.
+pub fn lower_from(
+    layouts: &[u32],
+    types: u32,
+    offsets: &[u32],
+    members: &[u32],
+    chain: &[u32],
+    l: Place,
+    kinds: &mut [u32],
+    bytes: &mut [u32],
+    bounds: &mut [u32],
+    marks: &mut [u32],
+    indices: &mut [u32],
+) -> Walk
+    ensures { Wrote 0 (chain_of (room_of kinds.old bytes.old bounds.old marks.old indices.old) layouts.now offsets.now members.now types l chain.now) result kinds.old bytes.old bounds.old marks.old indices.old kinds.new bytes.new bounds.new marks.new indices.new }
+{
+    if 510 < chain.len() {
+        return Walk::Refused(2);
+    }
+    let most = arith::smaller(bounds.len(), arith::smaller(marks.len(), indices.len()));
+    let room = arith::smaller(kinds.len(), arith::smaller(bytes.len(), most));
+    struct_part(
+        layouts,
+        types,
+        offsets,
+        members,
+        chain,
+        0,
+        l,
+        Pending::Empty,
+        0,
+        room,
+        kinds,
+        bytes,
+        bounds,
+        marks,
+        indices,
+    )
+}

@@ -1,0 +1,5 @@
+pub mod Text
+pub mod Decimal
+pub mod Reading
+pub mod Statements
+pub mod RoundTrip

@@ -1,0 +1,33 @@
+-- `fields::lower_of` meets its contract.
+use Rattle.fields.proofs.Took.{number_is, number_not}
+use Rattle.arith.specs.Options.{◌>>=◌}
+use Rattle.sheet.specs.Fields.{read_type}
+use borrow.Author.Tests.{lt-ltb, le-ltb}
+use borrow.Author.Rules.{rules}
+use Rattle.fields.proofs.lower_of.Statement.{statement}
+use Rattle.fields.proofs.lower_of.Tie as tie
+
+read-number-requires : tie.Need-read-number-requires
+read-number-requires c κs = search rules
+
+enum-known-n : tie.Need-enum-known-n
+enum-known-n c = search rules
+
+enum_told : tie.Need-enum-told
+enum_told c = search rules
+
+returns : tie.Need-returns
+unfolding read_type ◌>>=◌
+returns c = rw (number_not _ c.before.before.read_number.ensures c.enum_told.given.1)
+
+returns-2 : tie.Need-returns-2
+unfolding read_type ◌>>=◌
+returns-2 c = rw (number_is _ c.before.before.before.before.read_number.ensures c.before.before.n.given.1, lt-ltb _ _ c.if1.true)
+
+returns-3 : tie.Need-returns-3
+unfolding read_type ◌>>=◌
+returns-3 c = rw (number_is _ c.before.before.before.before.read_number.ensures c.before.before.n.given.1, le-ltb _ _ c.if1.false)
+
+pub lower-of-spec : {M : Type 1} → statement M
+lower-of-spec =
+    tie.close (tie.spec read-number-requires enum-known-n enum_told returns returns-2 returns-3)

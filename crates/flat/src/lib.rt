@@ -1,0 +1,43 @@
+// The table of a sheet for C: one list of 7,175 words, its parts one behind the other.
+ghost use Rattle.std.specs.Prelude.{◌≡◌};
+ghost use Rattle.flat.specs.Reads.{ReadsTable, stored_parts};
+
+use reading::SheetAnswer;
+
+// Lays out the types, and stores all parts.
+fn store(n: u32, setting: &[u32], types: &[u32], members: &[u32], given: &[u32], table: &mut [u32])
+    ensures { table.new ≡ stored_parts n setting.now types.now members.now given.now table.old }
+{
+    let count = [n];
+    let mut offsets = [0u32; 1024];
+    let mut layouts = [0u32; 2560];
+    let cfg = shapes::words::setting_of(setting);
+    records::layouts(cfg, n, types, members, given, &mut offsets, &mut layouts);
+    spirv::put_words(table, 0, &count);
+    spirv::put_words(table, 1, setting);
+    spirv::put_words(table, 7, types);
+    spirv::put_words(table, 1543, members);
+    spirv::put_words(table, 2567, given);
+    spirv::put_words(table, 3591, &offsets);
+    spirv::put_words(table, 4615, &layouts);
+}
+
+// Reads a sheet into a table. Where it is refused, or the list is too short, the list is as it was.
+pub fn read_table(sheet: &[u8], table: &mut [u32]) -> SheetAnswer
+    ensures { ReadsTable sheet.now result table.old table.new }
+{
+    let mut setting = [0u32; 6];
+    let mut types = [0u32; 1536];
+    let mut members = [0u32; 1024];
+    let mut given = [0u32; 1024];
+    match reading::read_sheet(sheet, &mut setting, &mut types, &mut members, &mut given) {
+        SheetAnswer::Refused(e) => SheetAnswer::Refused(e),
+        SheetAnswer::Types(n) => {
+            if table.len() < 7175 {
+                return SheetAnswer::Refused(24);
+            }
+            store(n, &setting, &types, &members, &given, table);
+            SheetAnswer::Types(n)
+        }
+    }
+}

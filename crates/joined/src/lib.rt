@@ -1,0 +1,1 @@
+// Reader, layouts and chains together: statements and theorems, no code of its own.

@@ -1,0 +1,1 @@
+// The layouts of a table's rows are those of its declarations: theorems only, in proofs/.

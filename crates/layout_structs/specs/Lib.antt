@@ -1,4 +1,0 @@
-pub mod Decorations
-pub mod Steps
-pub mod Rows
-pub mod Statements

@@ -1,4 +1,0 @@
-pub mod Chains
-pub mod InLists
-pub mod Numbers
-pub mod Written

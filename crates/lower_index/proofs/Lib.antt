@@ -1,4 +1,0 @@
-pub mod OneField
-pub mod OneIndex
-pub mod PartRows
-pub mod WhatWaits

@@ -1,3 +1,0 @@
-pub mod Moves
-pub mod Numbers
-pub mod Written

@@ -1,0 +1,13 @@
+-- `moves::index_of` meets its contract. Assumes nothing.
+use borrow.Author.Tests.{eq-eqb, ne_eqb}
+use Rattle.moves.proofs.index_of.Statement.{statement}
+use Rattle.moves.proofs.index_of.Tie as tie
+
+returns : tie.Need-returns
+returns c = rw (eq-eqb _ _ c.if1.true)
+
+returns-2 : tie.Need-returns-2
+returns-2 c = rw (ne_eqb _ _ c.if1.false)
+
+pub index-of-spec : {M : Type 1} → statement M
+index-of-spec = tie.close (tie.spec returns returns-2)

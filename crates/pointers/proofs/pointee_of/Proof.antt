@@ -1,0 +1,110 @@
+-- `pointers::pointee_of` meets its contract: by the type. Assumes nothing.
+use Rattle.spirv.specs.Decl.{pointee_of}
+use Rattle.pointers.specs.InCode.{as_pointee}
+use borrow.Author.Rules.{rules}
+use Rattle.pointers.proofs.pointee_of.Statement.{statement}
+use Rattle.pointers.proofs.pointee_of.Tie as tie
+
+enum_told : tie.Need-enum-told
+enum_told c = search rules
+
+enum-told-2 : tie.Need-enum-told-2
+enum-told-2 c = search rules
+
+enum-told-3 : tie.Need-enum-told-3
+enum-told-3 c = search rules
+
+enum-told-4 : tie.Need-enum-told-4
+enum-told-4 c = search rules
+
+enum-told-5 : tie.Need-enum-told-5
+enum-told-5 c = search rules
+
+enum-told-6 : tie.Need-enum-told-6
+enum-told-6 c = search rules
+
+enum-told-7 : tie.Need-enum-told-7
+enum-told-7 c = search rules
+
+enum-told-8 : tie.Need-enum-told-8
+enum-told-8 c = search rules
+
+enum-known-ty : tie.Need-enum-known-ty
+enum-known-ty c = search rules
+
+enum-told-9 : tie.Need-enum-told-9
+enum-told-9 c = search rules
+
+enum-told-10 : tie.Need-enum-told-10
+enum-told-10 c = search rules
+
+returns : tie.Need-returns
+unfolding as_pointee pointee_of
+returns c = rw c.enum_told.given.1
+
+returns-2 : tie.Need-returns-2
+unfolding as_pointee pointee_of
+returns-2 c = rw c.enum-told2.given.1
+
+returns-3 : tie.Need-returns-3
+unfolding as_pointee pointee_of
+returns-3 c = rw c.enum-told3.given.1
+
+returns-4 : tie.Need-returns-4
+unfolding as_pointee pointee_of
+returns-4 c = rw c.enum-told4.given.1
+
+returns-5 : tie.Need-returns-5
+unfolding as_pointee pointee_of
+returns-5 c = rw c.enum-told5.given.1
+
+returns-6 : tie.Need-returns-6
+unfolding as_pointee pointee_of
+returns-6 c = rw c.enum-told6.given.1
+
+returns-7 : tie.Need-returns-7
+unfolding as_pointee pointee_of
+returns-7 c = rw c.enum-told7.given.1
+
+returns-8 : tie.Need-returns-8
+unfolding as_pointee pointee_of
+returns-8 c = rw c.enum-told8.given.1
+
+returns-9 : tie.Need-returns-9
+unfolding as_pointee pointee_of
+returns-9 c = rw c.before.ty.given.1
+
+returns-10 : tie.Need-returns-10
+unfolding as_pointee pointee_of
+returns-10 c = rw c.enum-told9.given.1
+
+returns-11 : tie.Need-returns-11
+unfolding as_pointee pointee_of
+returns-11 c = rw c.enum-told10.given.1
+
+pub pointee-of-spec : {M : Type 1} → statement M
+pointee-of-spec =
+    tie.close
+    (tie.spec
+    enum_told
+    enum-told-2
+    enum-told-3
+    enum-told-4
+    enum-told-5
+    enum-told-6
+    enum-told-7
+    enum-told-8
+    enum-known-ty
+    enum-told-9
+    enum-told-10
+    returns
+    returns-2
+    returns-3
+    returns-4
+    returns-5
+    returns-6
+    returns-7
+    returns-8
+    returns-9
+    returns-10
+    returns-11)

@@ -1,0 +1,84 @@
+// The line of a layout, `t,form,len,size,align,legacy,dyn`, then field offsets, or the stride. A struct's fields are a span of the sheet's list of offsets.
+ghost use Rattle.std.specs.Prelude.{◌∷◌};
+ghost use Rattle.text.specs.Printed.{Printed};
+ghost use Rattle.decimal.specs.Text.{bytes};
+ghost use Rattle.decimal.specs.Decimal.{decimal};
+ghost use Rattle.answers.specs.Lines.{parts_fields, memory_fields, opaque_fields};
+ghost use Rattle.answers.specs.Output.{printed};
+ghost use Rattle.cells.specs.Behind.{behind};
+ghost use Rattle.printing.specs.Layouts.{parts_in, memory_in, layout_text};
+
+use shapes::{Components, Handle, MemTypeLayout, TypeLayout};
+
+fn parts(out: &mut [u8], at: usize, p: Components, offsets: &[u32]) -> usize
+    ensures { Printed (behind (parts_fields (parts_in offsets.now p))) out.old at result out.new }
+{
+    match p {
+        Components::Scalar => at,
+        Components::Elements { stride, .. } => cells::number(out, at, stride),
+        Components::Fields { start, count } => {
+            cells::numbers(out, at, shapes::rows::span(offsets, start, count))
+        }
+    }
+}
+
+fn memory(out: &mut [u8], at: usize, m: MemTypeLayout, offsets: &[u32]) -> usize
+    ensures { Printed (behind (memory_fields (memory_in offsets.now m))) out.old at result out.new }
+{
+    let mem = m.mem;
+    let base = mem.fixed_base;
+    let components = m.components;
+    let a = cells::number(out, at, base.size);
+    let b = cells::number(out, a, base.align);
+    let c = cells::number(out, b, base.legacy_align);
+    let d = cells::number(out, c, mem.dyn_unit_stride);
+    parts(out, d, components, offsets)
+}
+
+// The line of memory, of a buffer, or of an array of buffers.
+fn memory_line(
+    out: &mut [u8],
+    at: usize,
+    form: &[u8],
+    len: u32,
+    m: MemTypeLayout,
+    offsets: &[u32],
+) -> usize
+    ensures { Printed (printed (bytes "t" ∷ form.now ∷ decimal len ∷ memory_fields (memory_in offsets.now m))) out.old at result out.new }
+{
+    let a = text::byte(out, at, b't');
+    let b = text::byte(out, a, b',');
+    let c = text::bytes(out, b, form);
+    let d = cells::number(out, c, len);
+    let e = memory(out, d, m, offsets);
+    text::byte(out, e, b'\n')
+}
+
+// The line of an opaque, or of an array of them.
+fn opaque_line(out: &mut [u8], at: usize, form: &[u8], len: u32) -> usize
+    ensures { Printed (printed (bytes "t" ∷ form.now ∷ decimal len ∷ opaque_fields)) out.old at result out.new }
+{
+    let a = text::byte(out, at, b't');
+    let b = text::byte(out, a, b',');
+    let c = text::bytes(out, b, form);
+    let d = cells::number(out, c, len);
+    let e = text::bytes(out, d, b",0,0,0,0");
+    text::byte(out, e, b'\n')
+}
+
+// The line of a layout whose fields are spans of these offsets.
+pub fn layout_line(out: &mut [u8], at: usize, l: TypeLayout, offsets: &[u32]) -> usize
+    ensures { Printed (layout_text offsets.now l) out.old at result out.new }
+{
+    match l {
+        TypeLayout::Concrete(m) => memory_line(out, at, b"c", 0, m, offsets),
+        TypeLayout::Handle(h) => match h {
+            Handle::Opaque => opaque_line(out, at, b"o", 0),
+            Handle::Buffer(m) => memory_line(out, at, b"b", 0, m, offsets),
+        },
+        TypeLayout::HandleArray(h, len) => match h {
+            Handle::Opaque => opaque_line(out, at, b"ao", len),
+            Handle::Buffer(m) => memory_line(out, at, b"ab", len, m, offsets),
+        },
+    }
+}

@@ -1,0 +1,84 @@
+// Answer lines of the program `lay`, printed into a lent slice at a place, as the crate `text` prints: what lies past the slice's end is left out.
+
+pub mod layouts;
+
+ghost use Rattle.std.proofs.Math.Option.{none, some};
+ghost use Rattle.text.specs.Printed.{Printed};
+ghost use Rattle.steps.specs.Lists.{steps_in};
+ghost use Rattle.printing.specs.Texts.{equal_text, components_text, chain_text, length_text, variable_text, refusal_text};
+
+use shapes::MemLayout;
+
+// `y` or `n`.
+pub fn equal_line(out: &mut [u8], at: usize, same: bool) -> usize
+    ensures { Printed (equal_text same) out.old at result out.new }
+{
+    if same {
+        return text::bytes(out, at, b"y\n");
+    }
+    text::bytes(out, at, b"n\n")
+}
+
+// `q`, then components.
+pub fn components_line(out: &mut [u8], at: usize, found: &[u32]) -> usize
+    ensures { Printed (components_text found.now) out.old at result out.new }
+{
+    let a = text::byte(out, at, b'q');
+    let b = cells::numbers(out, a, found);
+    text::byte(out, b, b'\n')
+}
+
+// `c`, then the first `count` steps that five lists of words hold.
+pub fn chain_line(
+    out: &mut [u8],
+    at: usize,
+    kinds: &[u32],
+    bytes: &[u32],
+    bounds: &[u32],
+    marks: &[u32],
+    indices: &[u32],
+    count: usize,
+) -> usize
+    ensures { Printed (chain_text (steps_in kinds.now bytes.now bounds.now marks.now indices.now count)) out.old at result out.new }
+{
+    let a = text::byte(out, at, b'c');
+    let b = cells::first_steps(out, a, kinds, bytes, bounds, marks, indices, count);
+    text::byte(out, b, b'\n')
+}
+
+// `l,offset,stride`.
+pub fn length_line(out: &mut [u8], at: usize, offset: u32, stride: u32) -> usize
+    ensures { Printed (length_text offset stride) out.old at result out.new }
+{
+    let a = text::byte(out, at, b'l');
+    let b = cells::number(out, a, offset);
+    let c = cells::number(out, b, stride);
+    text::byte(out, c, b'\n')
+}
+
+// `x,size,align,legacy`.
+pub fn variable_line(out: &mut [u8], at: usize, m: MemLayout) -> usize
+    ensures { Printed (variable_text (some m)) out.old at result out.new }
+{
+    let a = text::byte(out, at, b'x');
+    let b = cells::number(out, a, m.size);
+    let c = cells::number(out, b, m.align);
+    let d = cells::number(out, c, m.legacy_align);
+    text::byte(out, d, b'\n')
+}
+
+// `x` alone.
+pub fn no_variable_line(out: &mut [u8], at: usize) -> usize
+    ensures { Printed (variable_text none) out.old at result out.new }
+{
+    text::bytes(out, at, b"x\n")
+}
+
+// `e,number`.
+pub fn refusal_line(out: &mut [u8], at: usize, n: u32) -> usize
+    ensures { Printed (refusal_text n) out.old at result out.new }
+{
+    let a = text::byte(out, at, b'e');
+    let b = cells::number(out, a, n);
+    text::byte(out, b, b'\n')
+}

@@ -1,1 +1,0 @@
-// Where several refusals are due, which one comes: laws of order of layouts and of every question. Theorems, no code.

@@ -1,1 +1,0 @@
-// A chain that is split after its first index or later: whole and parts agree, and which refusals part them. Theorems, no code.

@@ -1,0 +1,133 @@
+// What a line of a sheet writes into the lent lists, at the counts of the lines above it.
+ghost use Rattle.std.specs.Prelude.{◌≡◌, ◌+◌, ◌≤◌, replicate};
+ghost use Rattle.std.proofs.lemmas.List.Edits.{sets};
+ghost use Rattle.puts.specs.Puts.{offset_words, fresh_row, Declaring, Redecorating, Put, Putable};
+
+use lines::SheetLine;
+use spirv::{DeclRow, Decoration, MemberDecoration, SpvType};
+use tally::{Place, Tally};
+
+// n zeros from `first` on.
+fn put_zeros(list: &mut [u32], first: u32, n: usize)
+    ensures { list.new ≡ sets list.old first (replicate n 0) }
+{
+    let mut i: usize = 0;
+    while i < n {
+        lines::put_at(list, first as usize, i, 0);
+        i += 1;
+    }
+}
+
+// The offset that a D line gives, at its place among the struct's, where it counts as read and there is such a member.
+fn put_offset(list: &mut [u32], row: DeclRow, d: MemberDecoration)
+    ensures { list.new ≡ sets list.old (row.start + row.read) (offset_words row d) }
+{
+    if row.refusal != 0 {
+        return;
+    }
+    if d.member != row.read {
+        return;
+    }
+    if row.count <= row.read {
+        return;
+    }
+    let decoration = d.decoration;
+    match decoration {
+        Decoration::RowMajor => {}
+        Decoration::Offset(v) => {
+            lines::put_at(list, row.start as usize, row.read as usize, v);
+        }
+    }
+}
+
+// The row of a type that no D line follows so far.
+fn fresh_row(ty: SpvType, start: u32, count: u32) -> DeclRow
+    ensures { result ≡ fresh_row ty start count }
+{
+    if tally::is_struct(ty) {
+        return DeclRow {
+            ty,
+            start,
+            count,
+            refusal: 0,
+            read: 0,
+        };
+    }
+    DeclRow {
+        ty,
+        start: 0,
+        count: 0,
+        refusal: 0,
+        read: 0,
+    }
+}
+
+// A type's row, its members, and zeros for their offsets.
+fn put_type(
+    line: &[u8],
+    ty: SpvType,
+    count: usize,
+    at: usize,
+    t: Tally,
+    types: &mut [u32],
+    members: &mut [u32],
+    given: &mut [u32],
+)
+    requires { count ≤ 1024 }
+    ensures { Declaring t line.now ty count at types.old members.old given.old types.new members.new given.new }
+{
+    let row = fresh_row(ty, t.members, count as u32);
+    spirv::write_row(types, t.types, row);
+    lines::put_members(line, at, t.types, members, t.members as usize);
+    put_zeros(given, t.members, count);
+}
+
+// The last struct's row anew, and its offset.
+fn put_decoration(
+    row: DeclRow,
+    d: MemberDecoration,
+    count: u32,
+    types: &mut [u32],
+    given: &mut [u32],
+)
+    requires { (row.read ≤ 65536) × (1 ≤ count) }
+    ensures { Redecorating row d count types.old given.old types.new given.new }
+{
+    let row2 = tally::reduce(row, d);
+    spirv::write_row(types, count - 1, row2);
+    put_offset(given, row, d);
+}
+
+// What a line that is not refused writes.
+pub fn put(
+    line: &[u8],
+    l: SheetLine,
+    t: Tally,
+    types: &mut [u32],
+    members: &mut [u32],
+    given: &mut [u32],
+)
+    requires { Putable t l }
+    ensures { Put t line.now l types.old members.old given.old types.new members.new given.new }
+{
+    match l {
+        SheetLine::Setting(_) => {}
+        SheetLine::Declared { ty, count, at } => {
+            put_type(line, ty, count, at, t, types, members, given);
+        }
+        SheetLine::Decorated(d) => {
+            let place = t.place;
+            match place {
+                Place::Closed => {}
+                Place::Open(row) => {
+                    put_decoration(row, d, t.types, types, given);
+                }
+                Place::After(row, _) => {
+                    put_decoration(row, d, t.types, types, given);
+                }
+            }
+        }
+        SheetLine::Asked { ask: _, at: _ } => {}
+        SheetLine::Misread => {}
+    }
+}

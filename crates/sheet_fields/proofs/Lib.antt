@@ -1,4 +1,0 @@
-pub mod Numbers
-pub mod Pieces
-pub mod Same
-pub mod Took

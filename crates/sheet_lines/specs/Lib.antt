@@ -1,2 +1,0 @@
-pub mod OnePlace
-pub mod Says

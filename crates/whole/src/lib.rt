@@ -1,0 +1,23 @@
+// A whole sheet: from its bytes to its answer lines, as the program `lay` writes them.
+ghost use Rattle.arith.specs.Refusals.{ok};
+ghost use Rattle.text.specs.Whole.{Whole};
+ghost use Rattle.answers.specs.Output.{lay_output};
+
+use prepared::Ready;
+use text::Answer;
+
+// All of the lines, or one refusal line for a bad sheet; 24 and nothing where they don't fit.
+pub fn answer_sheet(sheet: &[u8], out: &mut [u8]) -> Answer
+    ensures { Whole (ok (lay_output sheet.now)) out.old result out.new }
+{
+    let mut types = [0u32; 1536];
+    let mut members = [0u32; 1024];
+    let mut offsets = [0u32; 1024];
+    let mut layouts = [0u32; 2560];
+    match prepared::prepare(sheet, &mut types, &mut members, &mut offsets, &mut layouts) {
+        Ready::Tables { cfg, n } => {
+            gathering::put_all(sheet, 0, cfg, n, &types, &layouts, &offsets, &members, out)
+        }
+        Ready::Refused(e) => fitting::put_refusal_line(out, e),
+    }
+}

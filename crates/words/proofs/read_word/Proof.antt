@@ -1,0 +1,47 @@
+-- `words::read_word` meets its contract. Assumes nothing.
+use Rattle.words.specs.Little.{word_at}
+use borrow.Author.Rules.{rules}
+use Rattle.words.proofs.read_word.Statement.{statement}
+use Rattle.words.proofs.read_word.Tie as tie
+
+shared-slice-read-join : tie.Need-shared-slice-read-join
+shared-slice-read-join c = search rules
+
+add-join : tie.Need-overflow-add-join
+add-join c = search rules
+
+shared-slice-read-join-2 : tie.Need-shared-slice-read-join-2
+shared-slice-read-join-2 c = search rules
+
+add-join-2 : tie.Need-overflow-add-join-2
+add-join-2 c = search rules
+
+shared-slice-read-join-3 : tie.Need-shared-slice-read-join-3
+shared-slice-read-join-3 c = search rules
+
+add-join-3 : tie.Need-overflow-add-join-3
+add-join-3 c = search rules
+
+shared-slice-read-join-4 : tie.Need-shared-slice-read-join-4
+shared-slice-read-join-4 c = search rules
+
+join-requires : tie.Need-join-requires
+join-requires c κs = search rules
+
+returns : tie.Need-returns
+unfolding word_at
+returns c = c.join.ensures
+
+pub read-word-spec : {M : Type 1} → statement M
+read-word-spec =
+    tie.close
+    (tie.spec
+    shared-slice-read-join
+    add-join
+    shared-slice-read-join-2
+    add-join-2
+    shared-slice-read-join-3
+    add-join-3
+    shared-slice-read-join-4
+    join-requires
+    returns)
