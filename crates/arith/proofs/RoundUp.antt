@@ -3,7 +3,7 @@ use Prim.Native.Nat.{ℕ, zero, suc, ◌+◌, ◌-◌, ◌*◌, ◌/◌, ◌%◌
 use native.Mathlib.Nat.{div-add-mod, mod-lt, mod_self, mod-eq_of_lt, mul-le-mul_left, mul-suc, sub-zero}
 use native.Mathlib.Decide.{dec_le}
 use native.Mathlib.Omega.{arith}
-use mathlib.Core.Path.{◌≡◌, refl, sym, ap, ◌∙◌, subst}
+use mathlib.Core.Path.{◌≡◌, refl, sym, ap, subst}
 use Rattle.arith.specs.Numbers.{round_up}
 use Rattle.arith.specs.Statements.{LeastMultiple, RoundsUp}
 

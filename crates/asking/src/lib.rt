@@ -1,18 +1,19 @@
 // The questions of a sheet that was read, one after another, each from the place behind the last.
+#![tactic(auto)]
 ghost use Rattle.sheet.specs.Grammar.{read_line};
 ghost use Rattle.asking.specs.Questions.{any_type, Finds, Hands, Steps};
 
 use lines::{Ask, SheetLine};
 
 // What a line asks, where it does.
-#[derive(Drop)]
+#[derive(Clone, Copy)]
 pub enum Asking {
     Asked { ask: Ask, at: usize },
     Nothing,
 }
 
 // The next question, with the place behind its line; none; or one whose indices the lent list is too short for.
-#[derive(Drop)]
+#[derive(Clone, Copy)]
 pub enum NextQuestion {
     Question { ask: Ask, next: usize },
     End,

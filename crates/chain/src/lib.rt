@@ -1,4 +1,5 @@
 // Chains lowered over tables of layouts: a struct part and an array part hand the walk to each other (try_lower_access_chain of lower.rs).
+#![tactic(auto)]
 ghost use Rattle.std.specs.Prelude.{◌≡◌, [], ◌∷◌, ◌+◌, length};
 ghost use Rattle.lower.specs.Steps.{flush};
 ghost use Rattle.moves.specs.Written.{Wrote, before, in_room_behind};
@@ -9,7 +10,7 @@ use moves::{Move, Walk};
 use places::Place;
 
 // How far a walk gets without a step: it is refused; it ends, this offset waiting; or it gives a step behind what waits, and goes on from there.
-#[derive(Drop)]
+#[derive(Clone, Copy)]
 pub enum Run {
     Refused(u32),
     Ended(Pending),

@@ -1,4 +1,6 @@
 // The components of a layout that hold a range of bytes (find_components_containing of layout.rs).
+#![tactic(auto)]
+
 ghost use Rattle.std.specs.Prelude.{◌≡◌, cond, ◌||◌, ◌+◌, ◌/◌, ◌<◌, leb, eqb, length, set};
 ghost use Rattle.shapes.specs.Spans.{Reading, answer_by};
 ghost use Rattle.shapes.specs.Rows.{answer_at};
@@ -10,14 +12,14 @@ ghost use Rattle.components.specs.Found.{found_in, lookup_in, held_element, coun
 use shapes::{Answer, Components, TypeLayout, rows};
 
 // The element that holds a range of bytes, if one does.
-#[derive(Drop)]
+#[derive(Clone, Copy)]
 pub enum Element {
     At(u32),
     Nothing,
 }
 
 // How many components were found, or a refusal.
-#[derive(Drop)]
+#[derive(Clone, Copy)]
 pub enum Lookup {
     Found(usize),
     Refused(u32),

@@ -1,4 +1,6 @@
 // The fields of a line: where one ends, and what it says, for each kind of field. A field follows the one that ends at index e.
+#![tactic(auto)]
+
 ghost use Rattle.std.specs.Prelude.{◌≡◌, ◌≤◌, length};
 ghost use Rattle.decimal.specs.Text.{same};
 ghost use Rattle.decimal.specs.Decimal.{read_number};
@@ -10,43 +12,43 @@ use decimal::Reading;
 use spirv::{ChainOp, Decoration, Index, Length, Stride};
 
 // What a field says and the index at which it ends, if it is of its kind.
-#[derive(Drop)]
+#[derive(Clone, Copy)]
 pub enum FlagAt {
     Field(bool, usize),
     Misread,
 }
 
-#[derive(Drop)]
+#[derive(Clone, Copy)]
 pub enum NumberAt {
     Field(u32, usize),
     Misread,
 }
 
-#[derive(Drop)]
+#[derive(Clone, Copy)]
 pub enum LengthAt {
     Field(Length, usize),
     Misread,
 }
 
-#[derive(Drop)]
+#[derive(Clone, Copy)]
 pub enum StrideAt {
     Field(Stride, usize),
     Misread,
 }
 
-#[derive(Drop)]
+#[derive(Clone, Copy)]
 pub enum OpAt {
     Field(ChainOp, usize),
     Misread,
 }
 
-#[derive(Drop)]
+#[derive(Clone, Copy)]
 pub enum IndexAt {
     Field(Index, usize),
     Misread,
 }
 
-#[derive(Drop)]
+#[derive(Clone, Copy)]
 pub enum DecorationAt {
     Field(Decoration, usize),
     Misread,

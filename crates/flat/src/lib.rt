@@ -1,4 +1,5 @@
 // The table of a sheet for C: one list of 7,175 words, its parts one behind the other.
+#![tactic(auto)]
 ghost use Rattle.std.specs.Prelude.{◌≡◌};
 ghost use Rattle.flat.specs.Reads.{ReadsTable, stored_parts};
 

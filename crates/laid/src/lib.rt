@@ -1,1 +1,3 @@
 // The layouts of a table's rows are those of its declarations: theorems only, in proofs/.
+
+#![tactic(auto)]

@@ -2,6 +2,7 @@
 // What is written comes from proved functions: `prepare` reads the whole sheet before anything is written, `fill` gives its lines a buffer at a time,
 // and by the theorem `streamed_sheet` of the crate `whole` the buffers add up to the sheet's answer. No contract can say what a call of C's reads
 // or writes, so the functions here are only proved safe and ending.
+#![tactic(auto)]
 use libc::{STDIN_FILENO, STDOUT_FILENO};
 use prepared::Ready;
 use shapes::LayoutConfig;

@@ -1,11 +1,9 @@
 -- Layouts and lookups of small sheets, computed: what each rule gives, and which refusal comes first. Assumes nothing.
-use Prim.Native.Nat.{ℕ}
 use mathlib.Core.Path.{◌≡◌, refl}
-use mathlib.Core.List.{List, [], ◌∷◌, map}
-use Rattle.arith.specs.Refusals.{Result, ok, refused}
-use Rattle.shapes.specs.Shapes.{Scalar, Elements, Fields, Opaque, Buffer, TypeLayout, Handle, HandleArray, Concrete, memory}
+use mathlib.Core.List.{[], ◌∷◌, map}
+use Rattle.arith.specs.Refusals.{ok, refused}
+use Rattle.shapes.specs.Shapes.{Scalar, Elements, Fields, Opaque, Buffer, Handle, HandleArray, Concrete, memory}
 use Rattle.sheet.proofs.OfText.{of}
-use Rattle.layout.specs.Arrays.{Answer}
 use Rattle.layout.specs.Layouts.{answer_in, runtime_array_in, layout_in_room}
 use Rattle.layout.specs.Lookup.{lookup, lookup_in_room}
 use Rattle.layout.proofs.Opened.{opened}

@@ -1,14 +1,14 @@
 -- The answer of each type of a sheet is the rule's for its declaration, by the answers of lower types. Assumes nothing.
 use Prim.Native.Nat.{ℕ, ◌<◌, ◌≤◌}
-use mathlib.Core.Path.{◌≡◌, refl, sym, ap, ◌∙◌, subst}
+use mathlib.Core.Path.{◌≡◌, refl, sym, ap, ◌∙◌}
 use mathlib.Core.Option.{Option, none, some}
 use native.Mathlib.Decide.{dec_lt}
 use native.Mathlib.Omega.{arith}
-use lib.ListN.{get_or, get_elem?}
-use Rattle.arith.specs.Refusals.{Result, ok, refused, misread}
+use lib.ListN.{get_elem?}
+use Rattle.arith.specs.Refusals.{ok, refused, misread}
 use Rattle.arith.proofs.Results.{never, value_is}
-use Rattle.spirv.specs.Decl.{Decl, filled}
-use Rattle.spirv.proofs.Filled.{MadeAt, filled_at, filled_missing}
+use Rattle.spirv.specs.Decl.{Decl}
+use Rattle.spirv.proofs.Filled.{filled_at, filled_missing}
 use Rattle.shapes.specs.Shapes.{TypeLayout}
 use Rattle.sheet.specs.Sheet.{Sheet, declared, decl_in}
 use Rattle.layout.specs.Arrays.{Answer}

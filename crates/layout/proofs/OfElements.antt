@@ -1,11 +1,11 @@
 -- What the layout of a vector, matrix or array says of its element's. Assumes nothing.
 use Prim.Native.Nat.{ℕ, ◌*◌, ◌≤◌}
-use mathlib.Core.Path.{◌≡◌, refl, sym, ap, ◌∙◌, subst}
-use mathlib.Core.Bool.{Bool, true, false, not}
+use mathlib.Core.Path.{◌≡◌, refl, subst}
+use mathlib.Core.Bool.{false}
 use native.Mathlib.Omega.{arith}
 use lib.Dec.{eqb}
 use borrow.Author.Tests.{eqb-true, eqb-false, not-false}
-use Rattle.arith.specs.Refusals.{Result, ok, refused}
+use Rattle.arith.specs.Refusals.{ok}
 use Rattle.arith.specs.Numbers.{max_u32}
 use Rattle.arith.proofs.Results.{never, value_is, went, passed, not_met, fit_is}
 use Rattle.shapes.specs.declared.LayoutConfig.{LayoutConfig}

@@ -1,14 +1,14 @@
 -- What the layout of a struct says of its members': where they lie, and how its numbers follow from theirs. Assumes nothing.
-use Prim.Native.Nat.{ℕ, zero, suc, ◌+◌, ◌≤◌, ◌<◌, max}
+use Prim.Native.Nat.{ℕ, zero, suc, ◌+◌, ◌≤◌, max}
 use mathlib.Core.Path.{◌≡◌, refl, sym, ap, ◌∙◌, subst}
 use mathlib.Core.Bool.{Bool, true, false, cond}
 use mathlib.Core.List.{List, [], ◌∷◌}
-use mathlib.Core.Option.{Option, none, some}
+use mathlib.Core.Option.{some}
 use native.Mathlib.Omega.{arith}
 use lib.Dec.{eqb}
 use lib.ListN.{get_elem?, length}
 use borrow.Author.Tests.{eqb-true, eqb-false}
-use Rattle.arith.specs.Refusals.{Result, ok, refused}
+use Rattle.arith.specs.Refusals.{ok}
 use Rattle.arith.specs.Numbers.{max_u32, fit, round_up}
 use Rattle.arith.proofs.Results.{never, went, passed, not_refused, value_is, fit_is, no_some, some_is}
 use Rattle.spirv.specs.declared.MemberDecoration.{MemberDecoration}

@@ -1,28 +1,26 @@
 -- What memory is made of: fields end within it, elements follow by the stride, and both are of lower types. Assumes nothing.
-use Prim.Native.Nat.{ℕ, zero, suc, ◌*◌, ◌<◌, ◌≤◌}
+use Prim.Native.Nat.{ℕ, ◌<◌, ◌≤◌}
 use mathlib.Core.Path.{◌≡◌, refl, sym, ap, ◌∙◌, subst}
 use mathlib.Core.Bool.{Bool, true, false}
 use mathlib.Core.List.{List, [], ◌∷◌}
 use mathlib.Core.Logic.{⊎_elim}
 use mathlib.Core.Option.{Option, none, some}
 use native.Mathlib.Omega.{arith}
-use lib.ListN.{get_elem?}
 use borrow.Author.Tests.{eqb-false}
-use Rattle.arith.specs.Refusals.{Result, ok, refused}
+use Rattle.arith.specs.Refusals.{ok}
 use Rattle.arith.proofs.Results.{never, value_is, passed, no_some, some_is}
 use Rattle.arith.proofs.RoundUp.{rounds_up}
 use Rattle.spirv.specs.Decl.{Decl}
-use Rattle.shapes.specs.declared.LayoutConfig.{LayoutConfig}
-use Rattle.shapes.specs.Shapes.{Components, Scalar, Elements, Fields, HandleLayout, MemTypeLayout, TypeLayout, Handle, HandleArray, Concrete, size_of, align_of, dyn_of, contents_of}
+use Rattle.shapes.specs.Shapes.{Scalar, HandleLayout, MemTypeLayout, TypeLayout, Handle, HandleArray, Concrete, size_of, align_of, dyn_of, contents_of}
 use Rattle.sheet.specs.Sheet.{Sheet}
 use Rattle.sheet.specs.Statements.{All}
-use Rattle.layout.specs.Arrays.{Answer, number_layout, ArrayParams, length_or_zero, has_zero_length, stride_without, array_layout, runtime_params}
+use Rattle.layout.specs.Arrays.{Answer, number_layout, ArrayParams, length_or_zero, has_zero_length, stride_without, array_layout}
 use Rattle.layout.specs.Structs.{block_or}
 use Rattle.layout.specs.Layouts.{Rule, of_setting, of_width, of_elements, of_members, of_handle, no_layout, rule_of, by_rule, layout_of, answer_in, runtime_array_by, runtime_array_in}
-use Rattle.layout.specs.Statements.{FieldOf, FieldsOf, ElementsOf, PartsOf, Parts, Handles, part_types, RefersLower}
+use Rattle.layout.specs.Statements.{PartsOf, Parts, Handles, part_types, RefersLower}
 use Rattle.layout.proofs.OfElements.{OfElements, ArrayIs, array_is}
-use Rattle.layout.proofs.OfMembers.{Laid, Ends, OfMembers, StructIs, struct_is, same_length, MemberIs, member_is}
-use Rattle.layout.proofs.InSheet.{MadeIn, laid_in}
+use Rattle.layout.proofs.OfMembers.{Laid, OfMembers, struct_is, same_length, member_is}
+use Rattle.layout.proofs.InSheet.{laid_in}
 
 -- the contents of a struct are the same, Block or not
 pub block_contents : (block : Bool) (m : MemTypeLayout) → contents_of (block_or block m) ≡ some m

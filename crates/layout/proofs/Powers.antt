@@ -3,11 +3,11 @@ use Prim.Native.Nat.{ℕ, ◌*◌, ◌/◌, ◌<◌}
 use mathlib.Core.Path.{◌≡◌, refl, sym, ap, ◌∙◌, subst}
 use mathlib.Core.Bool.{Bool, true, false, cond, ◌&&◌}
 use mathlib.Core.List.{List, [], ◌∷◌}
-use mathlib.Core.Option.{Option, none, some}
+use mathlib.Core.Option.{some}
 use native.Mathlib.Omega.{arith}
 use lib.Dec.{leb}
 use borrow.Author.Tests.{leb-true}
-use Rattle.arith.specs.Refusals.{Result, ok, refused}
+use Rattle.arith.specs.Refusals.{ok}
 use Rattle.arith.specs.Numbers.{is_power_of_two}
 use Rattle.arith.proofs.Results.{never, value_is, passed, not_refused, no_some, some_is, first_true, second_true}
 use Rattle.arith.proofs.Powers.{Pow2, pow_max, pow_twice, power, pow_width}
@@ -18,14 +18,14 @@ use Rattle.spirv.specs.Decl.{Decl}
 use Rattle.spirv.proofs.Filled.{by_lower}
 use Rattle.shapes.specs.declared.LayoutConfig.{LayoutConfig}
 use Rattle.shapes.specs.Shapes.{Opaque, Buffer, MemTypeLayout, TypeLayout, Handle, HandleArray, Concrete, align_of, legacy_of, shown_memory}
-use Rattle.sheet.specs.Sheet.{Sheet, good_setting}
-use Rattle.layout.specs.Arrays.{Answer, number_layout, ArrayParams, array_layout, vector_legacy, aggregate_legacy, vector_params, fixed_params, runtime_params}
+use Rattle.sheet.specs.Sheet.{good_setting}
+use Rattle.layout.specs.Arrays.{Answer, number_layout, ArrayParams, vector_legacy, vector_params, fixed_params, runtime_params}
 use Rattle.layout.specs.Structs.{block_or}
 use Rattle.layout.specs.Layouts.{Rule, of_setting, of_width, of_elements, of_members, of_handle, no_layout, rule_of, by_rule, layout_of, answer_in}
 use Rattle.layout.specs.Statements.{PowersOf, AlignmentPowers}
-use Rattle.layout.proofs.OfElements.{OfElements, ArrayIs, array_is}
-use Rattle.layout.proofs.OfMembers.{Laid, largest, OfMembers, StructIs, struct_is}
-use Rattle.layout.proofs.InSheet.{MadeIn, laid_in}
+use Rattle.layout.proofs.OfElements.{ArrayIs, array_is}
+use Rattle.layout.proofs.OfMembers.{Laid, largest, struct_is}
+use Rattle.layout.proofs.InSheet.{laid_in}
 
 -- the legacy alignment of a vector of numbers that have a power of two
 pub pow_vector : (len n : ℕ) → Pow2 n → Pow2 (vector_legacy len n)

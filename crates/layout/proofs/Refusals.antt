@@ -1,13 +1,13 @@
 -- The layout of a type of a sheet that was read is refused by 4 to 17 alone. Assumes nothing.
-use Prim.Native.Nat.{ℕ, zero, suc, ◌+◌, ◌<◌, ◌≤◌}
+use Prim.Native.Nat.{ℕ, max, zero, suc, ◌+◌, ◌<◌}
 use mathlib.Core.Path.{◌≡◌, refl, sym, ap, ◌∙◌, subst}
 use mathlib.Core.Bool.{Bool, true, false, cond}
 use mathlib.Core.List.{List, [], ◌∷◌}
-use mathlib.Core.Option.{Option, none, some}
+use mathlib.Core.Option.{some}
 use native.Mathlib.Omega.{arith}
 use lib.Dec.{eqb}
 use lib.ListN.{length, get_elem?}
-use Rattle.arith.specs.Refusals.{Result, ok, refused}
+use Rattle.arith.specs.Refusals.{Result, ok}
 use Rattle.arith.specs.Numbers.{fit, round_up}
 use Rattle.arith.proofs.Results.{value_is, RefusedBy, fine_by, this_by, then_by, and_by, unless_by, when_by, fit_by}
 use Rattle.spirv.specs.declared.Length.TheVariants.{Fixed, Specialization}
@@ -25,10 +25,10 @@ use Rattle.shapes.specs.Shapes.{MemTypeLayout, TypeLayout, Handle, HandleArray, 
 use Rattle.sheet.specs.Sheet.{Sheet, declared, decl_in}
 use Rattle.sheet.specs.Statements.{All, FitsType, FitsDecl, GoodSheet}
 use Rattle.layout.specs.Arrays.{Answer, number_layout, rounded, ArrayParams, stride_of, by_element, array_layout, vector_params, fixed_params, runtime_params}
-use Rattle.layout.specs.Structs.{in_memory, member_layouts, given_offset, given_offsets, Extent, place_given, place_in_turn, place, final_size, struct_layout}
+use Rattle.layout.specs.Structs.{in_memory, member_layouts, given_offset, given_offsets, Extent, with_member, place_given, place_in_turn, place, final_size, struct_layout}
 use Rattle.layout.specs.Layouts.{Rule, of_setting, of_width, of_elements, of_members, of_handle, no_layout, rule_of, by_rule, layout_of, answer_in}
 use Rattle.layout.specs.Statements.{IsLayoutRefusal, LayoutRefusals}
-use Rattle.layout.proofs.InSheet.{MadeIn, made_in}
+use Rattle.layout.proofs.InSheet.{made_in}
 
 abbrev pub Only : {A : Type 0} → Result A → Type 0
 Only r = RefusedBy IsLayoutRefusal r
@@ -71,14 +71,14 @@ place_given_only : (x : Extent) (os : List ℕ) (ms : List MemTypeLayout) → On
 unfolding place_given
 place_given_only x [] ms = fine_by
 place_given_only x (o ∷ os) [] = fine_by
-place_given_only x (o ∷ os) (m ∷ ms) = then_by _ _ (fit_by _ (omega arith)) λ e h. and_by _ _ (when_by _ _ (omega arith)) (place_given_only _ os ms)
+place_given_only x (o ∷ os) (m ∷ ms) = then_by _ _ (fit_by _ (omega arith)) λ e h. and_by _ _ (when_by _ _ (omega arith)) (place_given_only (with_member x (max x.size e) m) os ms)
 
 turn_only : (cfg : LayoutConfig) (x : Extent) (ms : List MemTypeLayout) → Only (place_in_turn cfg x ms)
 unfolding place_in_turn
 turn_only cfg x [] = fine_by
 turn_only cfg x (m ∷ ms) =
     and_by _ _ (when_by _ _ (omega arith)) (then_by _ _ (rounded_only cfg _ m) λ o h.
-    then_by _ _ (fit_by _ (omega arith)) λ e g. then_by _ _ (turn_only cfg _ ms) λ p k. fine_by)
+    then_by _ _ (fit_by _ (omega arith)) λ e g. then_by _ _ (turn_only cfg (with_member x e m) ms) λ p k. fine_by)
 
 place_only : (cfg : LayoutConfig) (given : List ℕ) (ms : List MemTypeLayout) → Only (place cfg given ms)
 unfolding place

@@ -1,5 +1,5 @@
 -- Document 01, "Files as they stay": int, float, bool and pointer; and the one rule of vector, matrix and arrays.
-use Rattle.std.specs.Prelude.{ℕ, ◌*◌, ◌/◌, max, Bool, true, false, cond, ◌&&◌, ◌||◌, leb, eqb}
+use Rattle.std.specs.Prelude.{ℕ, ◌*◌, ◌/◌, max, Bool, false, cond, ◌&&◌, ◌||◌, leb, eqb}
 use Rattle.std.proofs.Math.Option.{Option, none, some}
 use Rattle.arith.specs.Refusals.{Result, ok, refused, ◌>>=◌, ◌>>◌, refuse◌when◌, refuse◌unless◌, odd_width, zero_length, zero_stride, nested_handles, unsized_element, ambiguous}
 use Rattle.arith.specs.Numbers.{fit, round_up, is_power_of_two}

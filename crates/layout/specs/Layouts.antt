@@ -1,6 +1,6 @@
 -- Document 01, "Files as they stay": which rule each type follows; and "From heap trees to tables": one record a type, filled from type 0 upward.
-use Rattle.std.specs.Prelude.{ℕ, List, [], Bool, length, get_or}
-use Rattle.arith.specs.Refusals.{Result, ok, refused, in_room, misread, unsupported, specialization}
+use Rattle.std.specs.Prelude.{ℕ, List, Bool, length, get_or}
+use Rattle.arith.specs.Refusals.{ok, refused, in_room, misread, unsupported, specialization}
 use Rattle.spirv.specs.declared.Length.TheVariants.{Fixed, Specialization}
 use Rattle.spirv.specs.declared.Stride.TheVariants.{Undecorated}
 use Rattle.spirv.specs.declared.SpvType.{SpvType}

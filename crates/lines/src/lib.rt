@@ -1,4 +1,6 @@
 // What a line of a sheet says.
+#![tactic(auto)]
+
 ghost use Rattle.std.specs.Prelude.{◌≡◌, List, [], ℕ, ◌+◌, set};
 ghost use Rattle.std.proofs.Math.Option.{some};
 ghost use Rattle.std.proofs.lemmas.List.Edits.{sets};
@@ -12,7 +14,7 @@ use shapes::LayoutConfig;
 use spirv::{ChainOp, MemberDecoration, SpvType};
 
 // A question, by its letter. A chain's indices stand behind it: this many.
-#[derive(Drop)]
+#[derive(Clone, Copy)]
 pub enum Ask {
     T(u32),
     E(u32, u32),
@@ -23,7 +25,7 @@ pub enum Ask {
 }
 
 // What a line says. A struct's members and a chain's indices are the fields behind the one that ends at index `at`: this many.
-#[derive(Drop)]
+#[derive(Clone, Copy)]
 pub enum SheetLine {
     Setting(LayoutConfig),
     Declared {
@@ -40,7 +42,7 @@ pub enum SheetLine {
 }
 
 // How many fields there are, if all are of their kind.
-#[derive(Drop)]
+#[derive(Clone, Copy)]
 pub enum Count {
     Of(usize),
     Misread,

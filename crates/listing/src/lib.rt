@@ -1,5 +1,6 @@
 // The answer lines of a sheet's questions, one behind the other, over the tables of the sheet: all of them at a place, or as many whole lines as
 // fit a buffer.
+#![tactic(auto)]
 ghost use Rattle.std.specs.Prelude.{◌≡◌};
 ghost use Rattle.text.specs.Printed.{Printed};
 ghost use Rattle.answering.specs.OfTables.{of_tables};
@@ -46,7 +47,7 @@ pub fn put_answers(
 
 // What a buffer was filled with: so many bytes, which are whole lines. Where there are more, the next one, of the question at or behind the place
 // `next`, doesn't fit behind them.
-#[derive(Drop)]
+#[derive(Clone, Copy)]
 pub struct Filled {
     pub next: usize,
     pub bytes: usize,

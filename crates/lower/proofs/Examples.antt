@@ -1,19 +1,15 @@
 -- Chains, array lengths and local variables of small sheets, computed: what each index gives, and which refusal is met first. Assumes nothing.
-use Prim.Native.Nat.{ℕ}
 use mathlib.Core.Path.{◌≡◌, refl}
-use mathlib.Core.List.{List, [], ◌∷◌, ◌++◌, map}
-use mathlib.Core.Option.{Option, none, some}
-use lib.IntN.{ℤ, pos, negsuc}
-use Rattle.arith.specs.Refusals.{Result, ok, refused}
+use mathlib.Core.List.{[], ◌∷◌, ◌++◌, map}
+use mathlib.Core.Option.{none, some}
+use lib.IntN.{pos, negsuc}
+use Rattle.arith.specs.Refusals.{ok, refused}
 use Rattle.spirv.specs.declared.ChainOp.TheVariants.{AccessChain, InBoundsAccessChain, PtrAccessChain, InBoundsPtrAccessChain}
-use Rattle.spirv.specs.declared.Index.{Index}
 use Rattle.spirv.specs.declared.Index.TheVariants.{Known, Unknown}
-use Rattle.shapes.specs.declared.MemLayout.{MemLayout}
 use Rattle.sheet.proofs.OfText.{of}
-use Rattle.lower.specs.declared.QPtrOp.{QPtrOp}
 use Rattle.lower.specs.declared.QPtrOp.TheVariants.{HandleArrayIndex, BufferData, Offset, DynOffset}
 use Rattle.lower.specs.Chain.{lower_chain, chain_in_room}
-use Rattle.lower.specs.Other.{ArrayLength, array_length, local_variable}
+use Rattle.lower.specs.Other.{array_length, local_variable}
 use Rattle.lower.proofs.Opened.{opened}
 
 -- ---- arrays: an index is read as signed, and never clamped

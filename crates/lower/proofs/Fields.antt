@@ -1,14 +1,13 @@
 -- A field by its place in two lists. Assumes nothing.
 use Prim.Native.Nat.{ℕ, zero, suc, ◌<◌, ◌≤◌}
 use native.Mathlib.Omega.{arith}
-use mathlib.Core.Path.{◌≡◌, refl, sym, ap, ◌∙◌}
+use mathlib.Core.Path.{◌≡◌, refl}
 use mathlib.Core.List.{List, [], ◌∷◌}
-use lib.IntN.{pos}
 use lib.ListN.{length, get_or}
 use borrow.Author.Tests.{le-leb, lt-leb}
-use Rattle.arith.specs.Refusals.{Result, ok, refused, field_outside}
+use Rattle.arith.specs.Refusals.{ok, refused, field_outside}
 use Rattle.arith.specs.Numbers.{max_i32, signed}
-use Rattle.lower.specs.Steps.{Field, field_at, field_of}
+use Rattle.lower.specs.Steps.{field_at, field_of}
 
 pub field_there : (os ts : List ℕ) (n : ℕ) → n < length os → n < length ts → field_at os ts n ≡ ok record { offset = get_or os n 0; type = get_or ts n 0 }
 unfolding field_at

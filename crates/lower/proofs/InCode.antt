@@ -1,22 +1,20 @@
 -- What the code's tests say of the definitions: bounds of an index, constant offsets, and what waits. Assumes nothing.
 use Prim.Native.Nat.{ℕ, ◌<◌, ◌≤◌}
-use mathlib.Core.Path.{◌≡◌, refl, sym, ap, ◌∙◌}
-use mathlib.Core.Bool.{Bool, true, false, cond, ◌&&◌, true≢false}
+use mathlib.Core.Path.{◌≡◌, refl, sym, ap}
+use mathlib.Core.Bool.{Bool, true, false, cond}
 use mathlib.Core.Option.{Option, none, some}
 use native.Mathlib.Omega.{arith}
-use lib.Dec.{leb, ltb, eqb}
+use lib.Dec.{ltb}
 use lib.IntN.{ℤ, pos, negsuc, ◌+ℤ◌, ◌*ℤ◌}
 use mir.Syntax.{w32}
-use mir.Val.{SFits, to_z, of_z}
-use mir.ValLaws.{to_z-of_z}
+use mir.Val.{SFits, of_z}
 use borrow.Author.Tests.{le-leb, lt-leb, eq-eqb, ne_eqb}
-use Rattle.arith.specs.Refusals.{Result, ok, refused, ◌>>=◌, ◌>>◌, refuse◌unless◌, step_overflow}
-use Rattle.arith.specs.Numbers.{max_i32, max_u32, signed, is_i32, is_zero}
+use Rattle.arith.specs.Refusals.{Result, ok, refused, ◌>>◌, refuse◌unless◌, step_overflow}
+use Rattle.arith.specs.Numbers.{max_i32, signed, is_i32, is_zero}
 use Rattle.arith.specs.Checked.{checked_i32}
 use Rattle.arith.specs.declared.CheckedI32.{CheckedI32}
 use Rattle.arith.proofs.Fitting.{narrow_is, wide_is}
-use Rattle.spirv.specs.declared.Index.{Index}
-use Rattle.spirv.specs.declared.Index.TheVariants.{Known, Unknown}
+use Rattle.spirv.specs.declared.Index.TheVariants.{Known}
 use Rattle.lower.specs.declared.Pending.{Pending}
 use Rattle.lower.specs.declared.Pending.TheVariants.{Empty, Waiting}
 use Rattle.lower.specs.declared.Merged.{Merged}

@@ -1,15 +1,15 @@
 -- What an index that is not refused did: the field or the element that it found, and what it added. Assumes nothing.
 use Prim.Native.Nat.{ℕ, zero, suc}
 use mathlib.Core.Path.{◌≡◌, refl, sym, ap, ◌∙◌, subst}
-use mathlib.Core.Bool.{Bool, true, false, cond, ◌&&◌}
+use mathlib.Core.Bool.{true}
 use mathlib.Core.List.{List, [], ◌∷◌, ◌++◌}
 use mathlib.Core.Option.{Option, none, some}
 use lib.Dec.{leb}
-use lib.IntN.{ℤ, pos, negsuc, ◌+ℤ◌, ◌*ℤ◌}
+use lib.IntN.{ℤ, pos, negsuc, ◌*ℤ◌}
 use lib.ListN.{get_elem?}
-use Rattle.arith.specs.Refusals.{Result, ok, refused}
-use Rattle.arith.specs.Numbers.{max_i32, signed, is_i32, is_zero}
-use Rattle.arith.proofs.Results.{never, value_is, went, passed, not_refused, no_some, first_true, second_true, let_through}
+use Rattle.arith.specs.Refusals.{ok}
+use Rattle.arith.specs.Numbers.{max_i32, signed, is_i32}
+use Rattle.arith.proofs.Results.{never, value_is, went, passed, not_refused, no_some, second_true, let_through}
 use Rattle.spirv.specs.declared.ChainOp.{ChainOp}
 use Rattle.spirv.specs.declared.Index.{Index}
 use Rattle.spirv.specs.declared.Index.TheVariants.{Known, Unknown}
@@ -18,9 +18,9 @@ use Rattle.sheet.specs.Sheet.{Sheet, pointee_in}
 use Rattle.layout.specs.Arrays.{Answer}
 use Rattle.layout.specs.Layouts.{answer_in}
 use Rattle.lower.specs.declared.QPtrOp.{QPtrOp}
-use Rattle.lower.specs.declared.QPtrOp.TheVariants.{HandleArrayIndex, BufferData, Offset, DynOffset}
+use Rattle.lower.specs.declared.QPtrOp.TheVariants.{HandleArrayIndex, BufferData, DynOffset}
 use Rattle.lower.specs.declared.Pending.{Pending}
-use Rattle.lower.specs.declared.Pending.TheVariants.{Empty, Waiting}
+use Rattle.lower.specs.declared.Pending.TheVariants.{Empty}
 use Rattle.lower.specs.Steps.{flush, merged, Field, field_at, field_of, Move, to_field, bound_of, in_bound, constant_offset, by_constant, to_element, to_part, move, lower_from}
 use Rattle.lower.specs.Chain.{start_layout, chain_by}
 use Rattle.lower.specs.Statements.{Accepted}

@@ -1,8 +1,8 @@
 -- Where a chain stands it stands at a layout of the sheet: each index leads from one to another, and out of memory only into memory. Assumes nothing.
 use Prim.Native.Nat.{ℕ}
-use mathlib.Core.Path.{◌≡◌, refl, sym, ap, ◌∙◌, subst}
+use mathlib.Core.Path.{◌≡◌, refl, sym, ◌∙◌, subst}
 use mathlib.Core.Logic.{inl, inr}
-use Rattle.arith.specs.Refusals.{Result, ok}
+use Rattle.arith.specs.Refusals.{ok}
 use Rattle.arith.proofs.Results.{value_is}
 use Rattle.spirv.specs.declared.ChainOp.{ChainOp}
 use Rattle.spirv.specs.declared.ChainOp.TheVariants.{AccessChain, InBoundsAccessChain, PtrAccessChain, InBoundsPtrAccessChain}

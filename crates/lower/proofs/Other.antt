@@ -1,18 +1,17 @@
 -- Array length and local variable: just when they answer, and with which numbers. Assumes nothing.
-use Prim.Native.Nat.{ℕ, zero, suc, ◌≤◌}
+use Prim.Native.Nat.{ℕ, ◌≤◌}
 use mathlib.Core.Path.{◌≡◌, refl, sym, ap, ◌∙◌, subst}
 use mathlib.Core.Bool.{Bool, true, false, cond, not}
-use mathlib.Core.List.{List, [], ◌∷◌}
+use mathlib.Core.List.{List}
 use mathlib.Core.Option.{Option, none, some}
 use native.Mathlib.Omega.{arith}
 use lib.Dec.{eqb}
 use borrow.Author.Tests.{eqb-true, eqb-false, eq-eqb, ne_eqb}
-use Rattle.arith.specs.Refusals.{Result, ok, refused, ◌>>=◌, ◌>>◌, refuse◌unless◌}
+use Rattle.arith.specs.Refusals.{ok, ◌>>=◌, ◌>>◌, refuse◌unless◌}
 use Rattle.arith.proofs.Results.{never, value_is, went, passed, not_refused, no_some, some_is}
 use Rattle.shapes.specs.declared.MemLayout.{MemLayout}
-use Rattle.shapes.specs.Shapes.{Components, Scalar, Elements, Fields, HandleLayout, Opaque, Buffer, MemTypeLayout, TypeLayout, Handle, HandleArray, Concrete, size_of, dyn_of, runtime_sized}
-use Rattle.sheet.specs.Sheet.{Sheet, pointee_in}
-use Rattle.layout.specs.Layouts.{answer_in}
+use Rattle.shapes.specs.Shapes.{Components, Scalar, Elements, Fields, Opaque, Buffer, MemTypeLayout, TypeLayout, Handle, HandleArray, Concrete, dyn_of}
+use Rattle.sheet.specs.Sheet.{Sheet}
 use Rattle.lower.specs.Steps.{Field, field_at}
 use Rattle.lower.specs.Other.{buffer_of, member_of, runtime_stride, stride_of_part, ArrayLength, length_in, length_by, array_length, fixed_memory, variable_by, local_variable}
 use Rattle.lower.specs.Statements.{LengthOf, ArrayLengths, FixedPointee, OtherPointee, LocalVariables}

@@ -1,12 +1,12 @@
 -- By which numbers a chain is refused, once its layout is there: 19 to 23. Assumes nothing.
 use Prim.Native.Nat.{ℕ, zero, suc, ◌≤◌}
-use mathlib.Core.Path.{◌≡◌, refl, sym, ap, ◌∙◌, subst}
+use mathlib.Core.Path.{◌≡◌, refl, sym, ◌∙◌}
 use mathlib.Core.Bool.{Bool, true, false, cond}
 use mathlib.Core.List.{List, [], ◌∷◌}
 use mathlib.Core.Option.{Option, none, some}
 use native.Mathlib.Omega.{arith}
 use lib.IntN.{ℤ, pos, negsuc}
-use Rattle.arith.specs.Refusals.{Result, ok, refused, no_parts, step_overflow}
+use Rattle.arith.specs.Refusals.{Result, ok, no_parts, step_overflow}
 use Rattle.arith.specs.Numbers.{signed, is_zero}
 use Rattle.arith.proofs.Results.{never, not_both, RefusedBy, fine_by, this_by, then_by, and_by, unless_by}
 use Rattle.spirv.specs.declared.Index.{Index}
@@ -20,7 +20,7 @@ use Rattle.lower.specs.declared.QPtrOp.{QPtrOp}
 use Rattle.lower.specs.declared.Pending.{Pending}
 use Rattle.lower.specs.declared.Pending.TheVariants.{Empty, Waiting}
 use Rattle.lower.specs.Steps.{added, merged, Field, field_at, field_of, to_field, constant_offset, by_constant, to_element, to_part, move, lower_from}
-use Rattle.lower.proofs.Moves.{FieldIs, field_is, moved_by}
+use Rattle.lower.proofs.Moves.{field_is, moved_by}
 use Rattle.lower.proofs.Onward.{onward}
 
 abbrev pub IsWalkRefusal : ℕ → Type 0

@@ -7,7 +7,7 @@ use mathlib.Core.Option.{Option, none, some}
 use native.Mathlib.Omega.{arith}
 use lib.IntN.{ℤ, pos}
 use lib.ListN.{length, length-append}
-use Rattle.arith.specs.Refusals.{Result, ok}
+use Rattle.arith.specs.Refusals.{ok}
 use Rattle.arith.specs.Numbers.{is_i32, is_zero}
 use Rattle.arith.proofs.Results.{value_is, passed, not_refused}
 use Rattle.spirv.specs.declared.Index.{Index}
@@ -18,7 +18,7 @@ use Rattle.layout.specs.Layouts.{answer_in}
 use Rattle.layout.specs.Statements.{IsLayoutIn}
 use Rattle.layout.proofs.Parts.{parts}
 use Rattle.lower.specs.declared.QPtrOp.{QPtrOp}
-use Rattle.lower.specs.declared.QPtrOp.TheVariants.{HandleArrayIndex, BufferData, Offset, DynOffset}
+use Rattle.lower.specs.declared.QPtrOp.TheVariants.{HandleArrayIndex, BufferData, DynOffset}
 use Rattle.lower.specs.declared.Pending.{Pending}
 use Rattle.lower.specs.declared.Pending.TheVariants.{Empty, Waiting}
 use Rattle.lower.specs.Steps.{flush, added, merged, Move, bound_of, lower_from}

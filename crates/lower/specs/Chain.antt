@@ -1,6 +1,6 @@
 -- Document 01, "The refusals", C: 18, layout, the walk's 19 to 23 as met, 24; and the start of OpPtrAccessChain.
 use Rattle.std.specs.Prelude.{ℕ, List, length}
-use Rattle.arith.specs.Refusals.{Result, ok, refused, ◌>>=◌, in_room}
+use Rattle.arith.specs.Refusals.{Result, ◌>>=◌, in_room}
 use Rattle.spirv.specs.declared.ChainOp.{ChainOp}
 use Rattle.spirv.specs.declared.ChainOp.TheVariants.{AccessChain, InBoundsAccessChain, PtrAccessChain, InBoundsPtrAccessChain}
 use Rattle.spirv.specs.declared.Index.{Index}

@@ -1,5 +1,5 @@
 -- Document 01, "The refusals", L: 18, layout, 25, 21, 26, 27; X: 18, layout. The arms for OpArrayLength and OpVariable.
-use Rattle.std.specs.Prelude.{ℕ, Bool, true, false, cond, eqb}
+use Rattle.std.specs.Prelude.{ℕ, cond, eqb}
 use Rattle.std.proofs.Math.Option.{Option, none, some}
 use Rattle.arith.specs.Refusals.{Result, ok, refused, ◌>>=◌, ◌>>◌, refuse◌unless◌, no_buffer, field_outside, no_runtime_array, not_last}
 use Rattle.shapes.specs.declared.MemLayout.{MemLayout}

@@ -1,8 +1,8 @@
 -- Document 01, the third demand, and the arms for OpArrayLength and OpVariable: what is promised of steps and numbers, as statements.
 use Rattle.std.specs.Prelude.{ℕ, suc, ◌≤◌, ◌≡◌, Bool, true, false, ◌&&◌, ◌||◌, List, [], ◌∷◌, ◌↔◌, length}
-use Rattle.std.proofs.Math.Option.{Option, none, some}
+use Rattle.std.proofs.Math.Option.{none, some}
 use Rattle.std.proofs.Math.ListN.{get_elem?}
-use Rattle.arith.specs.Refusals.{Result, ok, refused}
+use Rattle.arith.specs.Refusals.{ok}
 use Rattle.arith.specs.Numbers.{is_i32}
 use Rattle.spirv.specs.declared.ChainOp.{ChainOp}
 use Rattle.spirv.specs.declared.Index.{Index}

@@ -1,4 +1,5 @@
 // One index of a chain over tables of layouts, and steps stored on the way back (try_lower_access_chain of lower.rs).
+#![tactic(auto)]
 ghost use Rattle.std.specs.Prelude.{◌≡◌, ◌≤◌, []};
 ghost use Rattle.arith.specs.Refusals.{ok};
 ghost use Rattle.shapes.specs.Rows.{answer_at};
@@ -12,14 +13,14 @@ use shapes::Components;
 use spirv::Index;
 
 // How a part is reached: an element by its index, a field by its offset, which then waits.
-#[derive(Drop)]
+#[derive(Clone, Copy)]
 pub enum By {
     Element { stride: u32, len: u32 },
     Field(Pending),
 }
 
 // Where an index leads, whatever the layout is there: refused; to a part of a type; to a handle of an array; into a buffer.
-#[derive(Drop)]
+#[derive(Clone, Copy)]
 pub enum Way {
     Stop(u32),
     Part { ty: u32, by: By },
@@ -28,7 +29,7 @@ pub enum Way {
 }
 
 // Where an index leads: refused; on to a place, this offset waiting; on to it behind a step; into a buffer, the index still to be used.
-#[derive(Drop)]
+#[derive(Clone, Copy)]
 pub enum Move {
     Reject(u32),
     Onward(Place, Pending),
@@ -37,7 +38,7 @@ pub enum Move {
 }
 
 // What a walk ends in: the number of steps, or the refusal.
-#[derive(Drop)]
+#[derive(Clone, Copy)]
 pub enum Walk {
     Steps(usize),
     Refused(u32),

@@ -1,4 +1,6 @@
 // What a walk needs of a layout, read from its row without sizes and alignments.
+#![tactic(auto)]
+
 ghost use Rattle.std.specs.Prelude.{◌≡◌, length, get_or};
 ghost use Rattle.shapes.specs.Words.{decode};
 ghost use Rattle.shapes.specs.Rows.{answer_at};
@@ -7,7 +9,7 @@ ghost use Rattle.places.specs.Places.{place_of, found_of, Parted, Made, Named};
 use shapes::{Answer, Components, Handle, TypeLayout};
 
 // Memory by its parts, a buffer or an array of buffers by those of its contents, an opaque handle, an array of these.
-#[derive(Drop)]
+#[derive(Clone, Copy)]
 pub enum Place {
     Memory(Components),
     Buffer(Components),
@@ -17,7 +19,7 @@ pub enum Place {
 }
 
 // The place that a type is, or the refusal of its layout.
-#[derive(Drop)]
+#[derive(Clone, Copy)]
 pub enum Found {
     At(Place),
     Refused(u32),
@@ -66,7 +68,7 @@ fn by_layout(ws: &[u32]) -> Found
 }
 
 // The parts that a row names by three words, or that its layout must tell.
-#[derive(Drop)]
+#[derive(Clone, Copy)]
 pub enum Parts {
     Are(Components),
     Other,

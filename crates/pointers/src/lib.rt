@@ -1,4 +1,5 @@
 // What is asked of a pointer's type, over tables of types and layouts: its pointee, and the arms for OpArrayLength and OpVariable of lower.rs.
+#![tactic(auto)]
 ghost use Rattle.std.specs.Prelude.{ℕ, ◌≡◌, List, length};
 ghost use Rattle.spirv.specs.Decl.{pointee_of};
 ghost use Rattle.spirv.specs.Rows.{decode_row};
@@ -17,7 +18,7 @@ use spirv::{RowReading, SpvType};
 
 // ---- the pointee
 
-#[derive(Drop)]
+#[derive(Clone, Copy)]
 pub enum Pointee {
     Type(u32),
     Refused(u32),
@@ -95,14 +96,14 @@ pub fn pointee_at(types: &[u32], n: u32, ptr: u32) -> Pointee
 // ---- array length (OpArrayLength)
 
 // A field of a struct, or the refusal.
-#[derive(Drop)]
+#[derive(Clone, Copy)]
 pub enum Field {
     At { offset: u32, ty: u32 },
     Refused(u32),
 }
 
 // BufferDynLen, or the refusal.
-#[derive(Drop)]
+#[derive(Clone, Copy)]
 pub enum ArrayLength {
     Bytes { offset: u32, stride: u32 },
     Refused(u32),
@@ -249,7 +250,7 @@ pub fn array_length(
 // ---- local variable (OpVariable)
 
 // The memory of a variable, where it is of a fixed size; or the refusal.
-#[derive(Drop)]
+#[derive(Clone, Copy)]
 pub enum Variable {
     Fixed(MemLayout),
     Other,

@@ -1,11 +1,12 @@
 // The tables of a sheet, ready for questions: its bytes are read, and each type is laid out.
+#![tactic(auto)]
 ghost use Rattle.prepared.specs.Prepared.{Prepares};
 
 use reading::SheetAnswer;
 use shapes::LayoutConfig;
 
 // The setting and how many types there are, or the refusal.
-#[derive(Drop)]
+#[derive(Clone, Copy)]
 pub enum Ready {
     Tables { cfg: LayoutConfig, n: u32 },
     Refused(u32),

@@ -1,4 +1,5 @@
 // Reads a sheet into lent lists: first without writing, then, where nothing is refused and the lists are long enough, into them.
+#![tactic(auto)]
 ghost use Rattle.std.specs.Prelude.{◌≡◌, ◌≤◌, length, drop};
 ghost use Rattle.std.proofs.lemmas.List.Edits.{sets};
 ghost use Rattle.decimal.specs.Text.{split};
@@ -14,7 +15,7 @@ use shapes::LayoutConfig;
 use tally::{Step, Tally};
 
 // What a pass comes to: the setting and the counts, or the refusal.
-#[derive(Drop)]
+#[derive(Clone, Copy)]
 pub enum End {
     Done {
         setting: LayoutConfig,
@@ -25,7 +26,7 @@ pub enum End {
 }
 
 // How many types were read, or the refusal.
-#[derive(Drop)]
+#[derive(Clone, Copy)]
 pub enum SheetAnswer {
     Types(u32),
     Refused(u32),

@@ -1,5 +1,6 @@
 // Steps of a chain as records, in a slice of records that the caller lends. Each function that has the slice is proved by a walk of its MIR, by
 // hand, and only passes it on or stores what a covered function made; what decides and computes is covered.
+#![tactic(auto)]
 ghost use Rattle.std.specs.Prelude.{◌≡◌, ◌<◌, ◌≤◌, pos, neg_ℤ, length};
 ghost use Rattle.steps.specs.Lists.{step_at, steps_in};
 ghost use Rattle.chain.specs.Chains.{room_of};
@@ -14,7 +15,7 @@ use spirv::Index;
 
 // Op 1 is H, 2 B, 3 O, 4 D. The bytes are a constant offset's. An index of kind 0 is known, one of kind 1 not. What a step does not have is 0.
 #[repr(C)]
-#[derive(Drop)]
+#[derive(Clone, Copy)]
 pub struct QPtrChainStep {
     pub op: u32,
     pub bytes: i32,
@@ -80,7 +81,7 @@ pub fn record_of(s: QPtrOp) -> QPtrChainStep
 
 // ---- how many are written, and what is answered
 
-#[derive(Drop)]
+#[derive(Clone, Copy)]
 pub struct Fit {
     pub n: usize,
     pub answer: i64,

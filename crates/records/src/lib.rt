@@ -1,4 +1,5 @@
 // layout_of for every type of a table from 0 upward: one row a type, from the rows below it.
+#![tactic(auto)]
 ghost use Rattle.std.specs.Prelude.{◌≡◌, ◌*◌};
 ghost use Rattle.layout.specs.Layouts.{rule_of};
 ghost use Rattle.arith.specs.Pairs.{both};
@@ -10,7 +11,7 @@ use shapes::{Answer, Handle, LayoutConfig, TypeLayout, rows};
 use spirv::{DeclRow, Length, RowReading, SpvType, Stride};
 
 // Which rule a type follows.
-#[derive(Drop)]
+#[derive(Clone, Copy)]
 pub enum Rule {
     OfSetting { size: u32, align: u32 },
     OfWidth(u32),
@@ -21,7 +22,7 @@ pub enum Rule {
 }
 
 // Whether the rows were written: not where the list of layouts is too short for them.
-#[derive(Drop)]
+#[derive(Clone, Copy)]
 pub enum Filling {
     Filled,
     Short,

@@ -1,6 +1,7 @@
 // Answers stored sheets by `answer_sheet`, and compares each line with the stored one. Its arguments name bundles: files of records, each a line
 // `SHEETBYTES ANSWERBYTES NAME`, then the bytes of the sheet, then those of its answers. Writes each line that differs, then how many agree.
 // Its functions are only proved safe and ending, but for `part` and `same`.
+#![tactic(auto)]
 ghost use Rattle.std.specs.Prelude.{◌≡◌, ◌<◌, ◌≤◌, length, take, drop};
 ghost use Rattle.spirv.specs.Rows.{same_words};
 
@@ -9,7 +10,7 @@ use libc::STDOUT_FILENO;
 use text::Answer;
 
 // How many sheets and answers agree, and how many lines differ.
-#[derive(Drop)]
+#[derive(Clone, Copy)]
 struct Count {
     sheets: u64,
     answers: u64,
@@ -17,7 +18,7 @@ struct Count {
 }
 
 // A record of a bundle: where its name, its sheet, its answers and the next record begin.
-#[derive(Drop)]
+#[derive(Clone, Copy)]
 enum Record {
     At {
         name: usize,

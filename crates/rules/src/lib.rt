@@ -1,4 +1,6 @@
 // The layout rules of layout_of that need no table: scalars, rounding, and the one rule of vector, matrix and arrays.
+#![tactic(auto)]
+
 ghost use Rattle.std.specs.Prelude.{◌≡◌};
 ghost use Rattle.arith.specs.Numbers.{fit};
 ghost use Rattle.arith.specs.Checked.{checked};
@@ -14,7 +16,7 @@ use shapes::{
 use spirv::Stride;
 
 // A number, or a refusal.
-#[derive(Drop)]
+#[derive(Clone, Copy)]
 pub enum Number {
     Is(u32),
     Refused(u32),
@@ -78,7 +80,7 @@ pub fn round_both(cfg: LayoutConfig, size: u32, mem: MaybeDynMemLayout) -> Numbe
 // ---- vector, matrix and arrays
 
 // What tells them apart. A runtime array has no length.
-#[derive(Drop)]
+#[derive(Clone, Copy)]
 pub struct ArrayParams {
     pub elem: u32,
     pub fixed: bool,

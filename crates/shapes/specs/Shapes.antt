@@ -1,7 +1,6 @@
 -- Document 01, "Files as they stay", shapes.rs and the types of layout.rs: what a type's layout is. Types are numbers, and a struct's fields are lists.
 use Rattle.std.specs.Prelude.{ℕ, Bool, not, List, [], eqb}
 use Rattle.std.proofs.Math.Option.{Option, none, some}
-use Rattle.shapes.specs.declared.MemLayout.{MemLayout}
 use Rattle.shapes.specs.declared.MaybeDynMemLayout.{MaybeDynMemLayout}
 
 -- what memory consists of; a length 0 is none

@@ -16,7 +16,6 @@ use Rattle.spirv.specs.declared.Decoration.{Decoration}
 use Rattle.spirv.specs.declared.Index.{Index}
 use Rattle.spirv.specs.declared.ChainOp.{ChainOp}
 use Rattle.spirv.specs.declared.SpvType.{SpvType}
-use Rattle.spirv.specs.declared.SpvType.TheVariants as spv
 use Rattle.spirv.specs.Decl.{plain}
 use Rattle.sheet.specs.Fields.{Form, field, number, flag, type, number_or_s, number_or_dash, op, decoration_value, types, indices, end, read_flag, read_type, read_length, read_stride, read_op, read_index, read_decoration, read_all}
 use Rattle.sheet.specs.Grammar.{Line, Setting, Declared, Decorated, Asked, declare_struct, grammar, form_of, by_first, read_line}

@@ -1,5 +1,4 @@
 -- What is asked of the sheet that a text is: the form of the examples by computation. Assumes nothing.
-use Prim.Native.Nat.{ℕ}
 use Prim.Native.String.{String}
 use Rattle.arith.specs.Refusals.{Result, ok, refused}
 use Rattle.decimal.specs.Text.{bytes}

@@ -1,7 +1,7 @@
 -- The order of decorations, the pointee of a pointer, and records filled from type 0 upward, computed from the definitions. Assumes nothing.
 use Prim.Native.Nat.{ℕ, ◌+◌}
 use mathlib.Core.Path.{◌≡◌, refl}
-use mathlib.Core.Bool.{Bool, true, false}
+use mathlib.Core.Bool.{true, false}
 use mathlib.Core.List.{List, [], ◌∷◌, map}
 use Rattle.arith.specs.Refusals.{ok, refused, no_pointer}
 use Rattle.spirv.specs.declared.Length.TheVariants.{Fixed}

@@ -1,6 +1,6 @@
 -- Document 01, "decorations in order": what a struct's D lines come to, as they are read. RowMajor is 12; an Offset whose member is below the
 -- count read 13, above it 14, else it counts as read; the first refusal stays.
-use Rattle.std.specs.Prelude.{ℕ, ◌+◌, cond, List, [], ◌∷◌, ◌++◌, eqb, ltb, length, take, replicate}
+use Rattle.std.specs.Prelude.{ℕ, cond, List, [], ◌∷◌, ◌++◌, eqb, ltb, length, take, replicate}
 use Rattle.arith.specs.Refusals.{row_major, offset_repeated, offsets_missing}
 use Rattle.spirv.specs.declared.Decoration.{Decoration}
 use Rattle.spirv.specs.declared.Decoration.TheVariants.{RowMajor, Offset}

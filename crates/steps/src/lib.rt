@@ -1,4 +1,5 @@
 // The words that hold a step, and the steps that five lists of words hold.
+#![tactic(auto)]
 ghost use Rattle.std.specs.Prelude.{◌≡◌, [], ◌∷◌, set};
 ghost use Rattle.steps.specs.Words.{word_of, with_index, encode, index_of, decode};
 ghost use Rattle.steps.specs.Lists.{step_at};
@@ -8,7 +9,7 @@ use lower::QPtrOp;
 use spirv::Index;
 
 // Kind 1 is H, 2 B, 3 O, 4 D. The bytes are a constant offset's, as a word, or a stride. Mark 0 is a known index, 1 an unknown.
-#[derive(Drop)]
+#[derive(Clone, Copy)]
 pub struct StepWords {
     pub kind: u32,
     pub bytes: u32,

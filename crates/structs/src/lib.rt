@@ -1,4 +1,5 @@
 // The struct rule of layout_of: members by span, what their decorations come to, then offsets, given or in turn, and size.
+#![tactic(auto)]
 ghost use Rattle.std.specs.Prelude.{◌≡◌, ◌+◌, ◌<◌, ◌≤◌, length, get_or, drop};
 ghost use Rattle.std.proofs.lemmas.List.Edits.{sets};
 ghost use Rattle.rules.specs.Rules.{with_parts, numbered};
@@ -17,27 +18,27 @@ use shapes::{
 use spirv::DeclRow;
 
 // A member's memory, or a refusal.
-#[derive(Drop)]
+#[derive(Clone, Copy)]
 pub enum Member {
     Memory(MaybeDynMemLayout),
     Refused(u32),
 }
 
 // A member's offset, and what the members then take up; or a refusal.
-#[derive(Drop)]
+#[derive(Clone, Copy)]
 pub enum Step {
     Placed(u32, MaybeDynMemLayout),
     Refused(u32),
 }
 
 // What the members take up, or a refusal.
-#[derive(Drop)]
+#[derive(Clone, Copy)]
 pub enum Placing {
     Done(MaybeDynMemLayout),
     Refused(u32),
 }
 
-#[derive(Drop)]
+#[derive(Clone, Copy)]
 pub enum Verdict {
     Good,
     Refused(u32),

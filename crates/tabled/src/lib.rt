@@ -1,4 +1,5 @@
 // Chains lowered over a table: indices come in as bytes, and steps go out as bytes.
+#![tactic(auto)]
 ghost use Rattle.std.specs.Prelude.{◌≡◌, ◌/◌, ◌≤◌, length};
 ghost use Rattle.arith.specs.Refusals.{in_room};
 ghost use Rattle.chain.specs.Chains.{room_of};
@@ -10,7 +11,7 @@ use shapes::{LayoutConfig, rows};
 use spirv::ChainOp;
 
 // The op that a number is, if it is one.
-#[derive(Drop)]
+#[derive(Clone, Copy)]
 pub enum OpReading {
     Op(ChainOp),
     Unknown,
@@ -35,7 +36,7 @@ fn op_of(op: u32) -> OpReading
 }
 
 // What is asked: a chain of an op, from a type that the table has, by at most 255 indices; or why not.
-#[derive(Drop)]
+#[derive(Clone, Copy)]
 pub enum Asked {
     Chain(ChainOp),
     Refused(u32),

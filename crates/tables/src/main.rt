@@ -1,5 +1,6 @@
 // Reads the sheets that its arguments name. For each it writes a line: the name, and the refusal, or how many types, members and questions
 // there are and a fold of each table. Tested against tools/tables; its own functions are proved safe, and promise nothing more.
+#![tactic(auto)]
 ghost use Rattle.std.specs.Prelude.{◌≤◌};
 
 use asking::NextQuestion;
@@ -10,7 +11,7 @@ use spirv::ChainOp;
 const FOLD: u64 = 4_294_967_296;
 
 // How many questions there are, and the fold of their words.
-#[derive(Drop)]
+#[derive(Clone, Copy)]
 pub struct Asked {
     pub count: usize,
     pub fold: u64,

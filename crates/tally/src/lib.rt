@@ -1,4 +1,5 @@
 // What was read of a sheet so far, as counts, and what a line adds to it or is refused by.
+#![tactic(auto)]
 ghost use Rattle.std.specs.Prelude.{◌≡◌, ◌≤◌};
 ghost use Rattle.spirv.specs.Decl.{before, is_struct, decoration_number, decoration_value};
 ghost use Rattle.sheet.specs.Sheet.{good_setting};
@@ -10,14 +11,14 @@ use shapes::LayoutConfig;
 use spirv::{DeclRow, Decoration, MemberDecoration, SpvType};
 
 // What stands above a line: a struct, a decoration of one, or another line. A struct's row has what its D lines come to.
-#[derive(Drop)]
+#[derive(Clone, Copy)]
 pub enum Place {
     Closed,
     Open(DeclRow),
     After(DeclRow, MemberDecoration),
 }
 
-#[derive(Drop)]
+#[derive(Clone, Copy)]
 pub struct Tally {
     pub setting: LayoutConfig,
     pub types: u32,
@@ -26,7 +27,7 @@ pub struct Tally {
 }
 
 // The counts with a line more, or its refusal.
-#[derive(Drop)]
+#[derive(Clone, Copy)]
 pub enum Step {
     Next(Tally),
     Refused(u32),

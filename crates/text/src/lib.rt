@@ -1,10 +1,12 @@
 // Text goes into a lent slice at a place. What lies past the slice's end is left out; the answer is the place after the text either way.
 // So one function both measures, on an empty slice, and writes.
+#![tactic(auto)]
+
 ghost use Rattle.std.specs.Prelude.{[], ◌∷◌};
 ghost use Rattle.text.specs.Printed.{Printed};
 
 // What a slice that was lent for a whole text holds now: so many bytes of it, or what it held before, with the number of the refusal.
-#[derive(Drop)]
+#[derive(Clone, Copy)]
 pub enum Answer {
     Bytes(usize),
     Refused(u32),

@@ -10,7 +10,7 @@ use Rattle.shapes.specs.declared.TypeLayout.{TypeLayout}
 use Rattle.shapes.specs.declared.Answer.{Answer}
 use Rattle.shapes.specs.declared.Answer.TheVariants.{Laid, Refused}
 use Rattle.shapes.specs.Rows.{answer_at}
-use Rattle.values.specs.Values.{shown_parts, shown_in, shown_of, held_in, Into}
+use Rattle.values.specs.Values.{shown_of, held_in, Into}
 
 module _ (layouts : List ℕ) (n : ℕ) (offsets : List ℕ) (t : ℕ) (old : List ℕ) where
   pub refused_into : (a : Answer) (e : ℕ) → a ≡ answer_at layouts n t → a ≡ Refused e → Into layouts n offsets t (Refused e) old old

@@ -1,4 +1,6 @@
 // T as values: a type's layout, and the field offsets that T shows of it into a lent list.
+#![tactic(auto)]
+
 ghost use Rattle.std.specs.Prelude.{◌≡◌};
 ghost use Rattle.values.specs.Values.{shown_parts, shown_in, Into};
 

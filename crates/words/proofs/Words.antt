@@ -10,7 +10,7 @@ use lib.Seq.{sets, get_or-drop, take_all}
 use borrow.Author.Tests.{leb-true, leb-false, le-leb, lt-leb}
 use Rattle.text.specs.Printed.{Printed}
 use Rattle.spirv.proofs.Words.{one_more}
-use Rattle.words.specs.Little.{little, joined, word_at, words_from, words_of}
+use Rattle.words.specs.Little.{little, word_at, words_from, words_of}
 
 pub words_length : (n : ℕ) (s : List ℕ) → length (words_from n s) ≡ n
 unfolding words_from

@@ -1,4 +1,6 @@
 // Words of 32 bits as four bytes, the least first: how C hands over indices and takes steps.
+#![tactic(auto)]
+
 ghost use Rattle.std.specs.Prelude.{◌≡◌, leb, ◌+◌, ◌%◌, ◌≤◌, length};
 ghost use Rattle.text.specs.Printed.{Printed};
 ghost use Rattle.std.proofs.lemmas.List.Edits.{sets};

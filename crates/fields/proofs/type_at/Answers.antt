@@ -1,0 +1,10 @@
+-- `fields::type_at` meets its contract.
+use Rattle.sheet.specs.Fields.{read_type}
+use Rattle.fields.proofs.Took.{took_none, took_piece}
+use Rattle.fields.proofs.type_at.Goals as goal
+
+pub returns-then-line-e : goal.returns-then-line-e
+returns-then-line-e c = took_none (read_type _) c.if-line-e.true
+
+pub returns : goal.returns
+returns c = took_piece (read_type _) c.if-line-e.false c.piece_end-end.ensures c.lower_of.ensures

@@ -1,0 +1,16 @@
+-- `lines::matrix_line` meets its contract.
+use Rattle.fields.proofs.Took.{got, lost}
+use Rattle.sheet.specs.Grammar.{grammar}
+use Rattle.lines.proofs.matrix_line.Goals as goal
+
+pub returns-in_default : goal.returns-in_default
+unfolding grammar
+returns-in_default c = rw (lost (rw c.in_default.is at c.type_at.ensures))
+
+pub returns-in_default-number_at : goal.returns-in_default-number_at
+unfolding grammar
+returns-in_default-number_at c = rw (got (rw c.in-Field.is at c.type_at.ensures), lost (rw c.in_default-number_at.is at c.number_at.ensures))
+
+pub returns : goal.returns
+unfolding grammar
+returns c = rw (got (rw c.in-Field.is at c.type_at.ensures), got (rw c.in-Field-number_at.is at c.number_at.ensures)) (c.declared.ensures _)
