@@ -5,7 +5,6 @@ use mathlib.Core.Path.{◌≡◌, refl, sym, ap, ◌∙◌}
 use mathlib.Core.List.{List, [], ◌∷◌, ◌++◌}
 use mathlib.Core.Option.{Option}
 use lib.ListN.{length, drop}
-use Rattle.spirv.specs.Questions.{Question}
 use Rattle.sheet.specs.Fields.{read_index, read_all}
 use Rattle.sheet.specs.Grammar.{Line, read_line}
 use Rattle.sheet.proofs.Tables.{front}
@@ -16,7 +15,7 @@ use Rattle.lines.specs.Says.{count_of, question_of, Asks, index_words, Stored}
 use Rattle.lines.proofs.Indices.{question_count, index_words_length}
 use Rattle.asking.specs.declared.NextQuestion.{NextQuestion}
 use Rattle.asking.specs.declared.NextQuestion.TheVariants as next
-use Rattle.asking.specs.Questions.{any_type, asked_in, questions_in, questions_from, Hands, Handed, Short, Steps}
+use Rattle.asking.specs.Questions.{any_type, asked_in, questions_in, questions_from, Hands, Handed, Steps}
 
 -- ---- a question's indices
 

@@ -1,5 +1,5 @@
 -- Of a sheet that is read the questions from its start on are its questions. Assumes nothing.
-use Prim.Native.Nat.{ℕ, suc, ◌+◌, ◌≤◌}
+use Prim.Native.Nat.{ℕ, suc, ◌≤◌}
 use native.Mathlib.Omega.{arith}
 use mathlib.Core.Path.{◌≡◌, refl, sym, ap, ◌∙◌, subst}
 use mathlib.Core.List.{List, [], ◌∷◌, ◌++◌, append_assoc, append-nil}
@@ -7,7 +7,7 @@ use mathlib.Core.Option.{Option, none, some}
 use borrow.Author.Tests.{ltb-true}
 use lib.Dec.{ltb}
 use lib.ListN.{length, length-append}
-use Rattle.arith.specs.Refusals.{ok, ◌>>=◌, ◌>>◌, refuse◌unless◌, oversize}
+use Rattle.arith.specs.Refusals.{ok, ◌>>=◌, oversize}
 use Rattle.arith.proofs.Results.{never, value_is, went, passed, not_refused}
 use Rattle.decimal.specs.Text.{split}
 use Rattle.spirv.specs.declared.MemberDecoration.{MemberDecoration}

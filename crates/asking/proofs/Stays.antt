@@ -60,8 +60,8 @@ module _ (above more : ℕ) (h : above ≤ more) where
   type_then : {A : Type 0} {f g : ℕ → Form A} → ((b : ℕ) → Keeps (f b) (g b)) → Keeps (field (read_type above) f) (field (read_type more) g)
   type_then k = field_keeps type_keeps k
 
-  as_it_is : {A B : Type 0} {r : List ℕ → Option B} {f g : B → Form A} → ((b : B) → Keeps (f b) (g b)) → Keeps (field r f) (field r g)
-  as_it_is k = field_keeps keeps_same k
+  as_it_is : {A B : Type 0} (r : List ℕ → Option B) {f g : B → Form A} → ((b : B) → Keeps (f b) (g b)) → Keeps (field r f) (field r g)
+  as_it_is r k = field_keeps keeps_same k
 
 -- two lists of forms, each row of which keeps what the other says
 abbrev KeepsAll : List (String × Form Line) → List (String × Form Line) → Type 0
@@ -108,10 +108,10 @@ grammar_keeps above more h = (
                 type_then above more h (λ a. keeps_same),
                 (
                   refl,
-                  as_it_is above more h (λ a. as_it_is above more h (λ n. types_keeps above more h (λ ms. declare_struct a n ms))),
+                  as_it_is above more h _ (λ a. as_it_is above more h _ (λ n. types_keeps above more h (λ ms. declare_struct a n ms))),
                   (
                     refl,
-                    as_it_is above more h (λ a. type_then above more h (λ b. keeps_same)),
+                    as_it_is above more h _ (λ a. type_then above more h (λ b. keeps_same)),
                     (
                       refl,
                       keeps_same,
@@ -132,7 +132,7 @@ grammar_keeps above more h = (
                                 type_then above more h (λ a. keeps_same),
                                 (
                                   refl,
-                                  as_it_is above more h (λ a. type_then above more h (λ b. keeps_same)),
+                                  as_it_is above more h _ (λ a. type_then above more h (λ b. keeps_same)),
                                   (
                                     refl,
                                     type_then above more h (λ a. keeps_same),

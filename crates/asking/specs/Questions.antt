@@ -1,5 +1,5 @@
 -- The questions of a sheet from a place on: those that the lines behind it ask, in their order.
-use Rattle.std.specs.Prelude.{ℕ, ◌+◌, ◌*◌, ◌≤◌, ◌<◌, ◌≡◌, List, [], ◌∷◌, ◌++◌, length, drop}
+use Rattle.std.specs.Prelude.{ℕ, ◌*◌, ◌≤◌, ◌<◌, ◌≡◌, List, [], ◌∷◌, ◌++◌, length, drop}
 use Rattle.std.proofs.Math.Option.{Option, none, some}
 use Rattle.arith.specs.Numbers.{max_u32}
 use Rattle.arith.specs.Refusals.{ok}

@@ -1,5 +1,6 @@
 // The questions of a sheet that was read, one after another, each from the place behind the last.
 #![tactic(auto)]
+
 ghost use Rattle.sheet.specs.Grammar.{read_line};
 ghost use Rattle.asking.specs.Questions.{any_type, Finds, Hands, Steps};
 

@@ -1,5 +1,6 @@
 // Fields of an answer line, each behind a comma.
 #![tactic(auto)]
+
 ghost use Rattle.std.specs.Prelude.{[], ◌∷◌, map};
 ghost use Rattle.text.specs.Printed.{Printed};
 ghost use Rattle.decimal.specs.Decimal.{decimal, signed_decimal};

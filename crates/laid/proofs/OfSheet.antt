@@ -1,5 +1,5 @@
 -- The tables of a sheet hold its types, and what they answer is what the sheet answers. Assumes nothing.
-use Prim.Native.Nat.{ℕ, zero, suc, ◌+◌}
+use Prim.Native.Nat.{ℕ, zero, suc}
 use mathlib.Core.Path.{◌≡◌, refl, sym, ap, ◌∙◌, fun_ext}
 use mathlib.Core.Bool.{Bool, true, false}
 use mathlib.Core.List.{List, [], ◌∷◌, ◌++◌}
@@ -11,7 +11,6 @@ use Rattle.arith.specs.Refusals.{Result, refused, ◌>>◌, refuse◌unless◌, 
 use Rattle.spirv.specs.Decl.{Decl}
 use Rattle.shapes.specs.Rows.{answer_at, flat}
 use Rattle.shapes.specs.Spans.{answer_over}
-use Rattle.shapes.specs.declared.Answer.{Answer}
 use Rattle.shapes.specs.declared.Answer.TheVariants.{Refused}
 use Rattle.shapes.proofs.RowLaws.{answer_of_list}
 use Rattle.sheet.specs.Sheet.{declared}

@@ -6,7 +6,7 @@ use mathlib.Core.List.{List}
 use native.Mathlib.Omega.{arith}
 use lib.ListN.{length}
 use lib.Seq.{sets, length-sets}
-use Rattle.arith.specs.Refusals.{Result, ok, refused, ◌>>=◌, ◌>>◌}
+use Rattle.arith.specs.Refusals.{Result, ok, refused, ◌>>=◌}
 use Rattle.spirv.specs.Decl.{Decl, plain, is_struct}
 use Rattle.spirv.specs.Reduced.{reduced, decl_row}
 use Rattle.spirv.specs.Rows.{struct_row, plain_row}

@@ -1,8 +1,8 @@
 -- What the definitions' lowering does with the first index is the move that the code finds. Assumes nothing.
 use Prim.Native.Nat.{ℕ}
-use mathlib.Core.Path.{◌≡◌, refl, sym, ap, ◌∙◌, subst}
+use mathlib.Core.Path.{◌≡◌, refl, ap, ◌∙◌}
 use mathlib.Core.Bool.{Bool, true, false, cond}
-use mathlib.Core.List.{List, [], ◌∷◌, ◌++◌, append_assoc}
+use mathlib.Core.List.{List, [], ◌∷◌, ◌++◌}
 use mathlib.Core.Option.{Option, none, some}
 use lib.Dec.{leb}
 use lib.IntN.{ℤ, pos}
@@ -28,8 +28,7 @@ use Rattle.lower.specs.declared.Pending.{Pending}
 use Rattle.lower.specs.declared.Pending.TheVariants.{Empty, Waiting}
 use Rattle.lower.specs.Steps.{flush, merged, Field, field_of, bound_of, constant_offset, by_constant, to_field, to_element, to_part, Move, move, lower_from}
 use Rattle.moves.specs.declared.By.TheVariants as by
-use Rattle.moves.specs.declared.Way.{Way}
-use Rattle.moves.specs.declared.Way.TheVariants.{Stop, Part, Give, Enter}
+use Rattle.moves.specs.declared.Way.TheVariants.{Stop}
 use Rattle.moves.specs.declared.Move.TheVariants as code
 use Rattle.moves.specs.declared.Move.{Move as CodeMove}
 use Rattle.moves.specs.Moves as moves

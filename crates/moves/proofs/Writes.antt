@@ -1,5 +1,5 @@
 -- Laws of what a walk answers and leaves: refused, with room or without, and steps in front of others. Assumes nothing.
-use Prim.Native.Nat.{ℕ, suc, ◌+◌, ◌<◌, ◌≤◌}
+use Prim.Native.Nat.{ℕ, ◌+◌, ◌<◌, ◌≤◌}
 use native.Mathlib.Omega.{arith}
 use mathlib.Core.Path.{◌≡◌, refl, sym, ap, ◌∙◌, subst}
 use mathlib.Core.Bool.{Bool, true, false}
@@ -16,7 +16,7 @@ use Rattle.steps.specs.Stored.{StoredAt}
 use Rattle.steps.proofs.Stored.{in_front, none_stored}
 use Rattle.moves.specs.declared.Walk.{Walk}
 use Rattle.moves.specs.declared.Walk.TheVariants.{Steps, Refused}
-use Rattle.moves.specs.Written.{walk_of, steps_of, before, in_room_behind, Wrote, in_front_of, Prefixed, after_of}
+use Rattle.moves.specs.Written.{before, in_room_behind, Wrote, in_front_of, Prefixed, after_of}
 
 -- ---- room
 

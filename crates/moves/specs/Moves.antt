@@ -1,5 +1,5 @@
 -- Where one index of a chain leads, over tables of layouts: the code's decisions, by value.
-use Rattle.std.specs.Prelude.{ℕ, Bool, true, false, cond, List, [], ◌∷◌, eqb, leb, ℤ, pos}
+use Rattle.std.specs.Prelude.{ℕ, cond, List, [], ◌∷◌, eqb, leb, ℤ, pos}
 use Rattle.std.proofs.Math.Option.{Option, none, some}
 use Rattle.arith.specs.Refusals.{Result, ok, refused, no_parts, unknown_field, far_field}
 use Rattle.arith.specs.Numbers.{max_i32, signed}

@@ -1,5 +1,6 @@
 // One index of a chain over tables of layouts, and steps stored on the way back (try_lower_access_chain of lower.rs).
 #![tactic(auto)]
+
 ghost use Rattle.std.specs.Prelude.{◌≡◌, ◌≤◌, []};
 ghost use Rattle.arith.specs.Refusals.{ok};
 ghost use Rattle.shapes.specs.Rows.{answer_at};

@@ -2,26 +2,26 @@
 use Prim.Native.Nat.{ℕ}
 use mathlib.Core.Path.{◌≡◌, refl, sym, ap, ◌∙◌, subst}
 use mathlib.Core.Bool.{Bool, true, false, cond}
-use mathlib.Core.List.{List, [], ◌∷◌}
+use mathlib.Core.List.{List}
 use mathlib.Core.Logic.{inl, inr}
-use mathlib.Core.Option.{Option, none, some}
+use mathlib.Core.Option.{Option, some}
 use lib.ListN.{get_elem?}
 use Rattle.arith.specs.Options.{◌>>=◌}
-use Rattle.arith.specs.Refusals.{Result, ok, refused}
+use Rattle.arith.specs.Refusals.{Result, ok}
 use Rattle.arith.proofs.Results.{never, passed, value_is}
 use Rattle.spirv.specs.declared.Length.TheVariants.{Fixed, Specialization}
 use Rattle.spirv.specs.declared.SpvType.{SpvType}
 use Rattle.spirv.specs.declared.SpvType.TheVariants as spv
 use Rattle.spirv.specs.Decl.{Decl}
-use Rattle.shapes.specs.Shapes.{Components, Scalar, Elements, Fields, HandleLayout, Opaque, Buffer, MemTypeLayout, TypeLayout, Handle, HandleArray, Concrete, offsets_of}
+use Rattle.shapes.specs.Shapes.{Components, Scalar, Elements, Fields, Opaque, Buffer, MemTypeLayout, TypeLayout, Handle, HandleArray, Concrete, offsets_of}
 use Rattle.sheet.specs.Sheet.{Sheet, decl_in}
 use Rattle.layout.specs.Arrays.{Answer, number_layout, ArrayParams, length_or_zero, array_layout, vector_params, fixed_params, runtime_params}
-use Rattle.layout.specs.Structs.{block_or, struct_layout}
+use Rattle.layout.specs.Structs.{block_or}
 use Rattle.layout.specs.Layouts.{rule_of, by_rule, layout_of, answer_in, runtime_array_by}
 use Rattle.layout.specs.Statements.{IsLayoutIn}
 use Rattle.layout.proofs.OfElements.{ArrayIs, array_is}
 use Rattle.layout.proofs.OfMembers.{struct_is}
-use Rattle.layout.proofs.InSheet.{MadeIn, laid_in}
+use Rattle.layout.proofs.InSheet.{laid_in}
 use Rattle.promise.specs.Walk.{Walked, type_no, runtime_array_of, Kind, handle_array, buffer, opaque, struct, array, scalar, is_handle, array_by, struct_by, kind_of_type, kind_of_decl, kind_of, layout_at, memory_of, memory_at, stride_of_elements, offset_at, stride_at}
 
 -- the layout at a place of the walk is one of the sheet

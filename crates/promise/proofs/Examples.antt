@@ -5,15 +5,14 @@ use mathlib.Core.Path.{◌≡◌, refl}
 use mathlib.Core.List.{List, [], ◌∷◌, map}
 use mathlib.Core.Option.{Option, none, some}
 use lib.IntN.{ℤ, pos, negsuc}
-use Rattle.arith.specs.Refusals.{Result, ok, refused}
-use Rattle.spirv.specs.declared.ChainOp.{ChainOp}
+use Rattle.arith.specs.Refusals.{ok}
 use Rattle.spirv.specs.declared.ChainOp.TheVariants.{AccessChain, PtrAccessChain}
 use Rattle.spirv.specs.declared.Index.{Index}
 use Rattle.spirv.specs.declared.Index.TheVariants.{Known, Unknown}
 use Rattle.sheet.proofs.OfText.{of}
-use Rattle.promise.specs.Meaning.{Values, WhichHandle, own, chosen, Spot}
-use Rattle.promise.specs.Walk.{Walked, type_no, runtime_array_of, Place, walk, start}
-use Rattle.promise.specs.Vulkan.{Vk, scalar_alignment, base_alignment, extended_alignment, Covered, covered}
+use Rattle.promise.specs.Meaning.{Values, own, chosen}
+use Rattle.promise.specs.Walk.{type_no, runtime_array_of, walk, start}
+use Rattle.promise.specs.Vulkan.{scalar_alignment, base_alignment, extended_alignment, Covered, covered}
 use Rattle.promise.proofs.Opened.{opened}
 
 -- ---- where Vulkan decides

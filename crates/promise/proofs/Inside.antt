@@ -1,5 +1,5 @@
 -- In memory of a fixed size, with each array index in range and no stride below its element's size, the part reached lies wholly inside. Assumes nothing.
-use Prim.Native.Nat.{ℕ, suc, ◌+◌, ◌*◌, ◌≤◌, ◌<◌}
+use Prim.Native.Nat.{ℕ, ◌+◌, ◌*◌, ◌≤◌, ◌<◌}
 use native.Mathlib.Nat.{mul-suc, mul-le-mul_left}
 use native.Mathlib.Omega.{arith}
 use mathlib.Core.Path.{◌≡◌, refl, sym, ap, ◌∙◌, subst}
@@ -7,11 +7,10 @@ use mathlib.Core.List.{List, [], ◌∷◌}
 use mathlib.Core.Option.{Option, none, some}
 use lib.IntN.{ℤ, pos, negsuc, ◌+ℤ◌, ◌*ℤ◌, pos-+ℤ-pos, pos-*ℤ-pos}
 use lib.ListN.{get_elem?}
-use Rattle.arith.specs.Options.{◌>>=◌}
-use Rattle.arith.specs.Refusals.{Result, ok, refused}
+use Rattle.arith.specs.Refusals.{ok}
 use Rattle.arith.proofs.Results.{value_is, no_some, some_is, went_on}
 use Rattle.spirv.specs.declared.Index.{Index}
-use Rattle.shapes.specs.Shapes.{Components, Scalar, Elements, Fields, Opaque, Buffer, MemTypeLayout, TypeLayout, Handle, HandleArray, Concrete, size_of, dyn_of, contents_of, offsets_of}
+use Rattle.shapes.specs.Shapes.{Components, Scalar, Elements, Fields, Opaque, Buffer, MemTypeLayout, TypeLayout, Handle, HandleArray, Concrete, size_of, dyn_of}
 use Rattle.sheet.specs.Sheet.{Sheet}
 use Rattle.layout.specs.Arrays.{length_or_zero}
 use Rattle.layout.specs.Layouts.{answer_in}
@@ -19,8 +18,8 @@ use Rattle.layout.specs.Statements.{FieldsOf, ElementsOf, PartsOf}
 use Rattle.layout.proofs.Parts.{parts}
 use Rattle.lower.specs.Chain.{start_layout}
 use Rattle.lower.proofs.Moves.{begun}
-use Rattle.promise.specs.Meaning.{Values, value, Spot, plus, moved, entered}
-use Rattle.promise.specs.Walk.{Walked, type_no, Kind, handle_array, buffer, opaque, struct, array, scalar, unlaid, kind_of, layout_at, memory_of, memory_at, offset_at, stride_at, Place, to_part, enter, into_field, into_element, step_by, step, walk, start_type, at_memory, at_handle, start_by, start}
+use Rattle.promise.specs.Meaning.{Values, value, plus, moved}
+use Rattle.promise.specs.Walk.{Walked, Kind, kind_of, layout_at, memory_of, memory_at, offset_at, Place, to_part, enter, into_field, into_element, step_by, step, walk, start_type, at_memory, at_handle, start_by, start}
 use Rattle.promise.specs.Statements.{InLength, Spaced, InRangeBy, Then, InRange, InsideOf, Inside}
 use Rattle.promise.proofs.Agreement.{layout_in, offset_is, stride_is, AgreesParts, Agrees, agrees}
 use Rattle.promise.proofs.SameByte.{start_laid}

@@ -3,10 +3,10 @@ use Prim.Native.Nat.{ℕ, zero, suc}
 use mathlib.Core.Path.{◌≡◌, refl, sym, ◌∙◌, ap}
 use mathlib.Core.Bool.{true}
 use mathlib.Core.List.{List, [], ◌∷◌}
-use mathlib.Core.Option.{Option, none, some}
+use mathlib.Core.Option.{some}
 use native.Mathlib.Omega.{arith}
-use lib.IntN.{ℤ, pos, negsuc}
-use Rattle.arith.specs.Refusals.{Result, ok, refused}
+use lib.IntN.{pos, negsuc}
+use Rattle.arith.specs.Refusals.{ok}
 use Rattle.arith.proofs.Results.{value_is, some_is}
 use Rattle.decimal.specs.Text.{bytes}
 use Rattle.spirv.specs.declared.ChainOp.TheVariants.{AccessChain}
@@ -16,7 +16,7 @@ use Rattle.spirv.specs.declared.Length.TheVariants.{Fixed}
 use Rattle.spirv.specs.declared.Stride.TheVariants.{Undecorated}
 use Rattle.spirv.specs.declared.SpvType.TheVariants as spv
 use Rattle.spirv.specs.declared.Decoration.TheVariants as decoration
-use Rattle.spirv.specs.Decl.{Decl, plain}
+use Rattle.spirv.specs.Decl.{plain}
 use Rattle.shapes.specs.Settings.{standard_setting}
 use Rattle.shapes.specs.Shapes.{MemTypeLayout, TypeLayout, size_of, legacy_of, shown_memory}
 use Rattle.sheet.specs.Sheet.{Sheet, read_sheet}
@@ -26,7 +26,6 @@ use Rattle.lower.specs.declared.QPtrOp.TheVariants.{HandleArrayIndex, BufferData
 use Rattle.lower.specs.Statements.{Accepted}
 use Rattle.promise.specs.Meaning.{Values, chosen, Spot, run}
 use Rattle.promise.specs.Walk.{type_no, start}
-use Rattle.promise.specs.Vulkan.{Vk, Vks}
 use Rattle.promise.specs.Vulkan.Vk.{number, vector, array, struct}
 use Rattle.promise.specs.Vulkan.Vks.{one, more}
 use Rattle.promise.specs.Statements.{Walks, InRange, InsideOf}

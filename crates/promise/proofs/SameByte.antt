@@ -8,27 +8,25 @@ use lib.IntN.{ℤ, pos, negsuc, ◌+ℤ◌, ◌*ℤ◌, +ℤ_assoc, +ℤ_idr}
 use lib.ListN.{get_elem?}
 use borrow.Author.Tests.{eqb-true}
 use Rattle.arith.specs.Options.{◌>>=◌}
-use Rattle.arith.specs.Refusals.{Result, ok, refused}
-use Rattle.arith.specs.Numbers.{signed, is_zero}
+use Rattle.arith.specs.Refusals.{ok}
+use Rattle.arith.specs.Numbers.{is_zero}
 use Rattle.arith.proofs.Results.{passed, value_is}
 use Rattle.spirv.specs.declared.Index.{Index}
-use Rattle.spirv.specs.declared.Index.TheVariants.{Known, Unknown}
 use Rattle.spirv.specs.declared.ChainOp.{ChainOp}
 use Rattle.spirv.specs.declared.ChainOp.TheVariants.{AccessChain, InBoundsAccessChain, PtrAccessChain, InBoundsPtrAccessChain}
 use Rattle.shapes.specs.Shapes.{Components, Scalar, Elements, Fields, Opaque, Buffer, MemTypeLayout, TypeLayout, Handle, HandleArray, Concrete}
 use Rattle.sheet.specs.Sheet.{Sheet}
-use Rattle.layout.specs.Arrays.{Answer}
 use Rattle.layout.specs.Layouts.{answer_in}
 use Rattle.lower.specs.declared.QPtrOp.{QPtrOp}
-use Rattle.lower.specs.declared.QPtrOp.TheVariants.{HandleArrayIndex, BufferData, Offset, DynOffset}
+use Rattle.lower.specs.declared.QPtrOp.TheVariants.{HandleArrayIndex, BufferData, DynOffset}
 use Rattle.lower.specs.declared.Pending.{Pending}
 use Rattle.lower.specs.declared.Pending.TheVariants.{Empty, Waiting}
 use Rattle.lower.specs.Steps.{flush, added, merged, Move, bound_of, lower_from}
 use Rattle.lower.specs.Chain.{start_layout}
 use Rattle.lower.proofs.Moves.{ToField, ToElement, ByConstant, ToPart, Moved, first_of, none_left, begun}
-use Rattle.promise.specs.Meaning.{Values, value, Spot, plus, moved, entered, picked, run}
-use Rattle.promise.specs.Walk.{Walked, type_no, runtime_array_of, Kind, handle_array, buffer, opaque, struct, array, scalar, unlaid, kind_of, layout_at, memory_of, offset_at, stride_at, Place, to_part, enter, into_field, into_element, step_by, step, walk, start_type, start_by, start}
-use Rattle.promise.specs.Statements.{Walks, Same, SameByte}
+use Rattle.promise.specs.Meaning.{Values, value, Spot, plus, moved, entered, run}
+use Rattle.promise.specs.Walk.{Walked, type_no, Kind, handle_array, buffer, opaque, struct, array, scalar, unlaid, kind_of, layout_at, memory_of, offset_at, stride_at, Place, into_field, into_element, step_by, step, walk, start_type, start_by, start}
+use Rattle.promise.specs.Statements.{SameByte}
 use Rattle.promise.proofs.Agreement.{offset_is, stride_is, AgreesParts, Agrees, agrees}
 
 -- ---- the waiting offset

@@ -1,16 +1,16 @@
 -- On a sheet that was read each question is refused only by numbers of the table, and by which is as the table says. Assumes nothing.
 use Prim.Native.Nat.{ℕ, zero, suc, ◌+◌, ◌<◌, ◌≤◌}
-use mathlib.Core.Path.{◌≡◌, refl, sym, ap, ◌∙◌, subst}
+use mathlib.Core.Path.{◌≡◌, refl, ap, ◌∙◌, subst}
 use mathlib.Core.Bool.{Bool, true, ◌&&◌}
 use mathlib.Core.List.{List, [], ◌∷◌, ◌++◌}
 use mathlib.Core.Logic.{◌⊎◌, inl, inr, ⊎_elim}
-use mathlib.Core.Option.{Option, none, some}
+use mathlib.Core.Option.{some}
 use native.Mathlib.Decide.{dec_le}
 use native.Mathlib.Omega.{arith}
 use lib.Dec.{ltb}
 use lib.ListN.{length, get_elem?}
 use borrow.Author.Tests.{lt-ltb, ltb-true}
-use Rattle.arith.specs.Refusals.{Result, ok, refused, refuse◌unless◌, misread}
+use Rattle.arith.specs.Refusals.{ok, refused, refuse◌unless◌, misread}
 use Rattle.arith.proofs.Results.{never, value_is, went, no_some, RefusedBy, fine_by, this_by, then_by, and_by, unless_by, when_by, wider_by, first_true, second_true}
 use Rattle.spirv.specs.declared.ChainOp.{ChainOp}
 use Rattle.spirv.specs.declared.ChainOp.TheVariants.{AccessChain, InBoundsAccessChain, PtrAccessChain, InBoundsPtrAccessChain}
@@ -18,10 +18,10 @@ use Rattle.spirv.specs.declared.Index.{Index}
 use Rattle.spirv.specs.declared.Stride.TheVariants.{Undecorated}
 use Rattle.spirv.specs.declared.SpvType.{SpvType}
 use Rattle.spirv.specs.declared.SpvType.TheVariants as spv
-use Rattle.spirv.specs.Decl.{Decl, pointee_of}
+use Rattle.spirv.specs.Decl.{pointee_of}
 use Rattle.spirv.specs.Questions.{Question}
 use Rattle.shapes.specs.Shapes.{Components, Scalar, Elements, Fields, Opaque, Buffer, MemTypeLayout, TypeLayout, Handle, HandleArray, Concrete}
-use Rattle.sheet.specs.Sheet.{Sheet, declared, decl_in, pointee_in, read_sheet}
+use Rattle.sheet.specs.Sheet.{Sheet, declared, decl_in, pointee_in}
 use Rattle.sheet.specs.Statements.{All, FitsType, FitsQuestion, GoodSheet}
 use Rattle.sheet.proofs.GoodSheet.{reads_good}
 use Rattle.layout.specs.Arrays.{runtime_params}
@@ -37,7 +37,7 @@ use Rattle.lower.specs.Chain.{start_layout, chain_by, lower_chain}
 use Rattle.lower.specs.Other.{buffer_of, member_of, runtime_stride, stride_of_part, length_in, length_by, array_length, variable_by}
 use Rattle.lower.proofs.Moves.{field_is}
 use Rattle.lower.proofs.Onward.{start_in}
-use Rattle.lower.proofs.Refusals.{IsWalkRefusal, laid_only, chain_only}
+use Rattle.lower.proofs.Refusals.{laid_only, chain_only}
 use Rattle.answers.specs.Lines.{answer_by, answer}
 use Rattle.promise.specs.Table.{layout_refusals, refusals_of, TableNumbers}
 

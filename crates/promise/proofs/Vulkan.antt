@@ -1,12 +1,12 @@
 -- Where Vulkan decides, alignments are Vulkan's, for every width at once. Assumes nothing.
-use Prim.Native.Nat.{ℕ, ◌+◌, ◌*◌, ◌/◌, ◌≤◌, ◌<◌, max}
+use Prim.Native.Nat.{ℕ, ◌/◌, ◌≤◌, ◌<◌, max}
 use mathlib.Core.Path.{◌≡◌, refl, sym, ap, ◌∙◌, subst}
-use mathlib.Core.Bool.{Bool, true, false, cond, ◌&&◌}
+use mathlib.Core.Bool.{Bool, true, false, ◌&&◌}
 use mathlib.Core.List.{List, [], ◌∷◌}
 use mathlib.Core.Option.{Option, none, some}
 use native.Mathlib.Omega.{arith}
 use lib.Dec.{leb}
-use Rattle.arith.specs.Refusals.{Result, ok, refused, misread}
+use Rattle.arith.specs.Refusals.{ok}
 use Rattle.arith.specs.Numbers.{round_up}
 use Rattle.arith.proofs.Results.{never, passed, not_refused, value_is, no_some, some_is, let_through}
 use Rattle.arith.proofs.Powers.{Pow2, pow_one, pow_round, pow_max}
@@ -14,12 +14,12 @@ use Rattle.spirv.specs.declared.Length.TheVariants.{Fixed, Specialization}
 use Rattle.spirv.specs.declared.Stride.TheVariants.{Undecorated}
 use Rattle.spirv.specs.declared.SpvType.{SpvType}
 use Rattle.spirv.specs.declared.SpvType.TheVariants as spv
-use Rattle.spirv.specs.Decl.{Decl, filled}
-use Rattle.spirv.proofs.Filled.{MadeAt, filled_at, by_lower}
+use Rattle.spirv.specs.Decl.{Decl}
+use Rattle.spirv.proofs.Filled.{filled_at, by_lower}
 use Rattle.shapes.specs.declared.LayoutConfig.{LayoutConfig}
 use Rattle.shapes.specs.Shapes.{Opaque, Buffer, MemTypeLayout, TypeLayout, Handle, HandleArray, Concrete, align_of, legacy_of, shown_memory}
 use Rattle.sheet.specs.Sheet.{Sheet}
-use Rattle.layout.specs.Arrays.{Answer, number_layout, ArrayParams, array_layout, vector_legacy, aggregate_legacy, vector_params, fixed_params, runtime_params}
+use Rattle.layout.specs.Arrays.{Answer, number_layout, ArrayParams, vector_legacy, aggregate_legacy, vector_params, fixed_params, runtime_params}
 use Rattle.layout.specs.Structs.{block_or}
 use Rattle.layout.specs.Layouts.{Rule, of_setting, of_width, of_elements, of_members, of_handle, no_layout, rule_of, by_rule, layout_of, answer_in}
 use Rattle.layout.proofs.OfElements.{OfElements, ArrayIs, array_is}
@@ -29,7 +29,7 @@ use Rattle.layout.proofs.Powers.{pow_vector, number_power, shown_block}
 use Rattle.promise.specs.Vulkan.{Vk, Vks, scalar_alignment, largest_scalar, base_alignment, largest_base, extended_alignment, largest_extended, Covered, vk_vector, vk_matrix, vk_array, joined, alone, vk_members, vk_struct, vk_type, vk_of, covered}
 use Rattle.promise.specs.Vulkan.Vk.{number, vector, array, struct}
 use Rattle.promise.specs.Vulkan.Vks.{one, more}
-use Rattle.promise.specs.Aligned.{Aligned, Alignments}
+use Rattle.promise.specs.Aligned.{Alignments}
 
 module _ (cfg : LayoutConfig) where
   abbrev least : ℕ

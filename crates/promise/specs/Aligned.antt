@@ -1,6 +1,6 @@
 -- Document 01, "Sources": align is Vulkan's scalar alignment; legacy its base alignment where the aggregate minimum is 1, its extended alignment where that is 16.
 use Rattle.std.specs.Prelude.{ℕ, ◌≡◌}
-use Rattle.std.proofs.Math.Option.{Option, some}
+use Rattle.std.proofs.Math.Option.{some}
 use Rattle.arith.specs.Refusals.{ok}
 use Rattle.shapes.specs.declared.LayoutConfig.{LayoutConfig}
 use Rattle.shapes.specs.Shapes.{MemTypeLayout, TypeLayout, align_of, legacy_of, shown_memory}

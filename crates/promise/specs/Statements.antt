@@ -1,7 +1,7 @@
 -- Document 01, "The typed walk", and the third demand: what is promised of chains, as statements. (That no two neighbours are both constant offsets is lower's NoNeighbours.)
 use Rattle.std.specs.Prelude.{ℕ, ◌+◌, ◌≤◌, ◌<◌, ◌≡◌, List, [], ◌∷◌, ℤ, pos}
 use Rattle.std.proofs.Math.Option.{Option, none, some}
-use Rattle.arith.specs.Refusals.{Result, ok, refused}
+use Rattle.arith.specs.Refusals.{ok}
 use Rattle.spirv.specs.declared.ChainOp.{ChainOp}
 use Rattle.spirv.specs.declared.Index.{Index}
 use Rattle.shapes.specs.Shapes.{MemTypeLayout, Concrete, size_of, dyn_of}

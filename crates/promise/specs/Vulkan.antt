@@ -1,5 +1,5 @@
 -- The Vulkan specification, "Offset and Stride Assignment", which document 01 lets decide alignments: scalar, base and extended alignment.
-use Rattle.std.specs.Prelude.{ℕ, ◌*◌, ◌/◌, max, Bool, true, false, cond, ◌&&◌, List, [], ◌∷◌, leb, get_or}
+use Rattle.std.specs.Prelude.{ℕ, ◌*◌, ◌/◌, max, cond, ◌&&◌, List, [], ◌∷◌, leb, get_or}
 use Rattle.std.proofs.Math.Option.{Option, none, some}
 use Rattle.arith.specs.Numbers.{round_up}
 use Rattle.spirv.specs.declared.SpvType.{SpvType}

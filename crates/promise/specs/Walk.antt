@@ -11,7 +11,7 @@ use Rattle.spirv.specs.declared.ChainOp.{ChainOp}
 use Rattle.spirv.specs.declared.ChainOp.TheVariants.{AccessChain, InBoundsAccessChain, PtrAccessChain, InBoundsPtrAccessChain}
 use Rattle.spirv.specs.declared.Index.{Index}
 use Rattle.spirv.specs.Decl.{Decl}
-use Rattle.shapes.specs.Shapes.{Components, Scalar, Elements, Fields, MemTypeLayout, contents_of, size_of, offsets_of}
+use Rattle.shapes.specs.Shapes.{Components, Scalar, Elements, Fields, MemTypeLayout, contents_of, offsets_of}
 use Rattle.sheet.specs.Sheet.{Sheet, decl_in}
 use Rattle.layout.specs.Arrays.{Answer}
 use Rattle.layout.specs.Layouts.{answer_in, runtime_array_in}

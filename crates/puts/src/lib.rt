@@ -1,5 +1,6 @@
 // What a line of a sheet writes into the lent lists, at the counts of the lines above it.
 #![tactic(auto)]
+
 ghost use Rattle.std.specs.Prelude.{◌≡◌, ◌+◌, ◌≤◌, replicate};
 ghost use Rattle.std.proofs.lemmas.List.Edits.{sets};
 ghost use Rattle.puts.specs.Puts.{offset_words, fresh_row, Declaring, Redecorating, Put, Putable};

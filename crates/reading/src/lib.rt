@@ -1,5 +1,6 @@
 // Reads a sheet into lent lists: first without writing, then, where nothing is refused and the lists are long enough, into them.
 #![tactic(auto)]
+
 ghost use Rattle.std.specs.Prelude.{◌≡◌, ◌≤◌, length, drop};
 ghost use Rattle.std.proofs.lemmas.List.Edits.{sets};
 ghost use Rattle.decimal.specs.Text.{split};

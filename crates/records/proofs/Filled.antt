@@ -13,7 +13,6 @@ use Rattle.shapes.specs.Words.{encode}
 use Rattle.shapes.specs.Rows.{flat}
 use Rattle.shapes.specs.Spans.{answer_by, itself}
 use Rattle.shapes.proofs.RowLaws.{next_row, answer_of_list}
-use Rattle.layout.specs.Arrays as arrays
 use Rattle.arith.specs.Pairs.{both}
 use Rattle.structs.specs.Rows.{below_in}
 use Rattle.records.specs.Records.{layout_of_row, below_of, with_next, records, record_at}

@@ -1,5 +1,6 @@
 // layout_of for every type of a table from 0 upward: one row a type, from the rows below it.
 #![tactic(auto)]
+
 ghost use Rattle.std.specs.Prelude.{◌≡◌, ◌*◌};
 ghost use Rattle.layout.specs.Layouts.{rule_of};
 ghost use Rattle.arith.specs.Pairs.{both};

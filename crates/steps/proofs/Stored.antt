@@ -3,7 +3,7 @@ use Prim.Native.Nat.{ℕ, suc, ◌+◌, ◌≤◌}
 use native.Mathlib.Omega.{arith}
 use native.Mathlib.Nat.{suc-add}
 use mathlib.Core.Path.{◌≡◌, refl, sym, ap, ◌∙◌}
-use mathlib.Core.List.{List, [], ◌∷◌, ◌++◌, map_append}
+use mathlib.Core.List.{List, [], ◌∷◌, ◌++◌, map-append}
 use lib.ListN.{length, set, length-map}
 use lib.Seq.{sets}
 use Rattle.arith.proofs.Stores.{sets_append, set_before}
@@ -26,7 +26,7 @@ stored_column f a b n l m r h g =
     ∙ sets_before (column f a) (column f b) l n (n + length a) (omega arith)
     ∙ ap (λ (k : ℕ). sets (sets l n (column f a)) (n + k) (column f b)) (sym long)
     ∙ sym (sets_append l n (column f a) (column f b))
-    ∙ ap (sets l n) (sym (map_append (λ s. f (encode s)) a b))
+    ∙ ap (sets l n) (sym (map-append (λ s. f (encode s)) a b))
 
 pub in_front : (a b : List QPtrOp) (n : ℕ) (k₀ b₀ l₀ m₀ i₀ k₁ b₁ l₁ m₁ i₁ k₂ b₂ l₂ m₂ i₂ : List ℕ) → StoredAt (n + length a) b k₀ b₀ l₀ m₀ i₀ k₁ b₁ l₁ m₁ i₁
     → StoredAt n a k₁ b₁ l₁ m₁ i₁ k₂ b₂ l₂ m₂ i₂ → StoredAt n (a ++ b) k₀ b₀ l₀ m₀ i₀ k₂ b₂ l₂ m₂ i₂

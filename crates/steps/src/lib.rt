@@ -1,5 +1,6 @@
 // The words that hold a step, and the steps that five lists of words hold.
 #![tactic(auto)]
+
 ghost use Rattle.std.specs.Prelude.{◌≡◌, [], ◌∷◌, set};
 ghost use Rattle.steps.specs.Words.{word_of, with_index, encode, index_of, decode};
 ghost use Rattle.steps.specs.Lists.{step_at};

@@ -1,5 +1,6 @@
 // The struct rule of layout_of: members by span, what their decorations come to, then offsets, given or in turn, and size.
 #![tactic(auto)]
+
 ghost use Rattle.std.specs.Prelude.{◌≡◌, ◌+◌, ◌<◌, ◌≤◌, length, get_or, drop};
 ghost use Rattle.std.proofs.lemmas.List.Edits.{sets};
 ghost use Rattle.rules.specs.Rules.{with_parts, numbered};

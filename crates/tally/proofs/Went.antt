@@ -1,5 +1,5 @@
 -- What the counts of a sheet that is being read say of it, and what a line may add. Assumes nothing.
-use Prim.Native.Nat.{ℕ, ◌+◌}
+use Prim.Native.Nat.{ℕ}
 use native.Mathlib.Omega.{arith}
 use mathlib.Core.Path.{◌≡◌}
 use mathlib.Core.Bool.{Bool, true, false}
@@ -13,7 +13,7 @@ use Rattle.spirv.specs.declared.DeclRow.{DeclRow}
 use Rattle.spirv.specs.Decl.{Decl, is_struct, before}
 use Rattle.spirv.specs.Reduced.{decl_row}
 use Rattle.sheet.specs.Fields.{read_type, read_all}
-use Rattle.sheet.specs.Grammar.{Line, Setting, Declared, Decorated, Asked}
+use Rattle.sheet.specs.Grammar.{Line, Decorated}
 use Rattle.sheet.specs.Sheet.{Sheet, member_count, takes_decoration, rises, next_line}
 use Rattle.fields.specs.Pieces.{behind}
 use Rattle.lines.specs.declared.SheetLine.{SheetLine}

@@ -1,5 +1,6 @@
 // What was read of a sheet so far, as counts, and what a line adds to it or is refused by.
 #![tactic(auto)]
+
 ghost use Rattle.std.specs.Prelude.{◌≡◌, ◌≤◌};
 ghost use Rattle.spirv.specs.Decl.{before, is_struct, decoration_number, decoration_value};
 ghost use Rattle.sheet.specs.Sheet.{good_setting};
