@@ -1,5 +1,6 @@
 // The C functions: numbers and lent bytes for a host that links libqptr.a. A negative answer is minus the number of a refusal.
 #![tactic(auto)]
+
 pub mod step_structs;
 
 ghost use Rattle.std.specs.Prelude.{◌≡◌};
