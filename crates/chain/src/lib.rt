@@ -1,5 +1,6 @@
 // Chains lowered over tables of layouts: a struct part and an array part hand the walk to each other (try_lower_access_chain of lower.rs).
 #![tactic(auto)]
+
 ghost use Rattle.std.specs.Prelude.{◌≡◌, [], ◌∷◌, ◌+◌, length};
 ghost use Rattle.lower.specs.Steps.{flush};
 ghost use Rattle.moves.specs.Written.{Wrote, before, in_room_behind};

@@ -1,5 +1,6 @@
 // Whether the lines of two layouts are equal, decided on their numbers: no two numbers print alike.
 #![tactic(auto)]
+
 ghost use Rattle.std.specs.Prelude.{◌≡◌, map};
 ghost use Rattle.decimal.specs.Text.{same};
 ghost use Rattle.decimal.specs.Decimal.{decimal};

@@ -1,6 +1,7 @@
 // Answer lines, all of a line or nothing: it is measured first, on no room, and then written where it fits. Where it does not, 24.
 
 #![tactic(auto)]
+
 ghost use Rattle.std.proofs.Math.Option.{none, some};
 ghost use Rattle.arith.specs.Refusals.{ok};
 ghost use Rattle.text.specs.Whole.{Whole};

@@ -1,5 +1,5 @@
 -- Every number of a layout of a sheet that was read has 32 bits. Assumes nothing.
-use Prim.Native.Nat.{ℕ, ◌/◌, ◌≤◌, ◌<◌}
+use Prim.Native.Nat.{ℕ, max, ◌/◌, ◌≤◌, ◌<◌}
 use native.Mathlib.Omega.{arith}
 use native.Mathlib.Nat.{div-le_self}
 use mathlib.Core.Path.{◌≡◌, sym, ◌∙◌, subst}
@@ -64,7 +64,7 @@ offsets_fit (o ∷ os) (m ∷ ms) size f e = (omega (arith, e.0), offsets_fit os
 
 largest_fits : (a : ℕ) (f : MemTypeLayout → ℕ) (ms : List MemTypeLayout) → Fits a → All (λ m. Fits (f m)) ms → Fits (largest a f ms)
 largest_fits a f [] h g = h
-largest_fits a f (m ∷ ms) h g = largest_fits _ f ms (omega (arith, g.0)) g.1
+largest_fits a f (m ∷ ms) h g = largest_fits (max a (f m)) f ms (omega (arith, g.0)) g.1
 
 all_as : {A : Type 0} (P Q : A → Type 0) → ((a : A) → P a → Q a) → (xs : List A) → All P xs → All Q xs
 all_as P Q f [] h = tt

@@ -1,6 +1,6 @@
 -- What the code's answers tell of the results that they were made from. Assumes nothing.
 use Prim.Native.Nat.{ℕ}
-use mathlib.Core.Path.{◌≡◌, refl, sym, ap, ◌∙◌}
+use mathlib.Core.Path.{◌≡◌, ap}
 use Rattle.arith.specs.Refusals.{Result, ok, refused}
 use Rattle.lower.specs.Steps as steps
 use Rattle.rules.specs.Rules.{numbered}

@@ -1,6 +1,6 @@
 -- C, L and X of document 01 over the tables: a pointer's row tells its pointee, and the rows of layouts what a type answers.
 use Rattle.std.specs.Prelude.{ℕ, cond, List, ltb, length}
-use Rattle.arith.specs.Refusals.{Result, ok, refused, ◌>>=◌, ◌>>◌, refuse◌when◌, refuse◌unless◌, in_room, misread, oversize}
+use Rattle.arith.specs.Refusals.{Result, refused, ◌>>=◌, ◌>>◌, refuse◌when◌, refuse◌unless◌, in_room, misread, oversize}
 use Rattle.spirv.specs.Decl.{pointee_of}
 use Rattle.spirv.specs.Rows.{row_at}
 use Rattle.spirv.specs.declared.ChainOp.{ChainOp}

@@ -1,5 +1,6 @@
 // What is asked of a pointer's type, over tables of types and layouts: its pointee, and the arms for OpArrayLength and OpVariable of lower.rs.
 #![tactic(auto)]
+
 ghost use Rattle.std.specs.Prelude.{ℕ, ◌≡◌, List, length};
 ghost use Rattle.spirv.specs.Decl.{pointee_of};
 ghost use Rattle.spirv.specs.Rows.{decode_row};

@@ -1,6 +1,7 @@
 // Answer lines of the program `lay`, printed into a lent slice at a place, as the crate `text` prints: what lies past the slice's end is left out.
 
 #![tactic(auto)]
+
 pub mod layouts;
 
 ghost use Rattle.std.proofs.Math.Option.{none, some};

@@ -1,18 +1,17 @@
 -- Steps are read back from their bytes, and indices that bytes spell fit 32 bits. Assumes nothing.
-use Prim.Native.Nat.{ℕ, zero, suc, ◌+◌, ◌*◌, ◌/◌, ◌<◌, ◌≤◌}
+use Prim.Native.Nat.{ℕ, zero, suc, ◌+◌, ◌*◌, ◌/◌, ◌<◌}
 use native.Mathlib.Omega.{arith}
 use mathlib.Core.Path.{◌≡◌, refl, sym, ap, ◌∙◌, subst}
 use mathlib.Core.Bool.{Bool, true, false, cond}
 use mathlib.Core.List.{List, [], ◌∷◌, ◌++◌, append_assoc}
-use mathlib.Core.Option.{Option, none, some}
+use mathlib.Core.Option.{some}
 use lib.Dec.{eqb}
-use lib.IntN.{ℤ}
 use lib.ListN.{length, drop, get_or, get_elem?, length-append}
 use Rattle.arith.specs.Refusals.{ok}
 use Rattle.arith.proofs.Results.{passed, value_is}
 use Rattle.spirv.specs.declared.Index.{Index}
 use Rattle.sheet.specs.Statements.{Fits, All, FitsIndex}
-use Rattle.words.specs.Little.{little, joined, word_at, words_from, words_of}
+use Rattle.words.specs.Little.{little, word_at, words_from, words_of}
 use Rattle.words.proofs.RoundTrip.{read_back}
 use Rattle.lower.specs.declared.QPtrOp.{QPtrOp}
 use Rattle.steps.specs.declared.StepWords.{StepWords}

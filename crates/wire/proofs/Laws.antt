@@ -5,13 +5,13 @@ use native.Mathlib.Numerals.{add-one}
 use mathlib.Core.Path.{◌≡◌, refl, sym, ap, ◌∙◌}
 use mathlib.Core.Bool.{Bool, true, false, ◌&&◌}
 use mathlib.Core.List.{List, [], ◌∷◌, ◌++◌, append_assoc, append-nil}
-use lib.Dec.{leb, eqb}
+use lib.Dec.{leb}
 use lib.ListN.{length, drop}
 use lib.Seq.{drop-drop}
 use borrow.Author.Tests.{le-leb, lt-leb, eq-eqb, ne_eqb}
 use Rattle.text.specs.Printed.{Printed}
 use Rattle.text.proofs.Laws.{then}
-use Rattle.words.specs.Little.{word_at, words_from, words_of}
+use Rattle.words.specs.Little.{word_at, words_from}
 use Rattle.words.proofs.Words.{word_behind}
 use Rattle.lower.specs.declared.QPtrOp.{QPtrOp}
 use Rattle.steps.specs.Lists.{step_at, steps_in}

@@ -1,5 +1,6 @@
 // Indices and steps as bytes: how a host hands them over and takes them.
 #![tactic(auto)]
+
 ghost use Rattle.std.specs.Prelude.{◌≡◌};
 ghost use Rattle.text.specs.Printed.{Printed};
 ghost use Rattle.steps.specs.Lists.{steps_in};

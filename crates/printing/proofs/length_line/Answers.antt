@@ -1,0 +1,6 @@
+-- `printing::length_line` meets its contract: the letter, two numbers, LF. Assumes nothing.
+use Rattle.cells.proofs.Laws.{fields, line}
+use Rattle.printing.proofs.length_line.Goals as goal
+
+pub returns : goal.returns
+returns c = line c.well_formed.0.0 _ c.byte-a.ensures (λ h. fields h _ _ c.number-b.ensures c.number-c.ensures) c.byte.ensures
