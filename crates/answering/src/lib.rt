@@ -1,5 +1,6 @@
 // The answer line of any question over tables of types and layouts, printed into a lent slice at a place, as the crate `text` prints.
 #![tactic(auto)]
+
 ghost use Rattle.text.specs.Printed.{Printed};
 ghost use Rattle.answers.specs.Lines.{answer_by};
 ghost use Rattle.answers.specs.Output.{text_of};

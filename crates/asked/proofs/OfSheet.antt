@@ -4,13 +4,11 @@ use mathlib.Core.Path.{◌≡◌, ap, ◌∙◌}
 use mathlib.Core.List.{List}
 use lib.ListN.{length}
 use Rattle.arith.specs.Refusals.{Result}
-use Rattle.reading.specs.declared.SheetAnswer.TheVariants.{Types}
 use Rattle.layout.specs.Arrays.{Answer}
 use Rattle.layout.specs.Lookup.{lookup_by}
 use Rattle.lower.specs.Other.{length_by, variable_by}
 use Rattle.sheet.specs.Sheet.{pointee_in}
 use Rattle.layout.specs.Layouts.{answer_in}
-use Rattle.flat.specs.Reads.{ReadsTable}
 use Rattle.flat.proofs.Parts.{Read, was_read}
 use Rattle.flat.proofs.Answers.{pointees, answers}
 use Rattle.asked.specs.Asked.{in_words, answer_for, pointee_for, length_words, variable_words, layout_words}

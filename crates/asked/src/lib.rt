@@ -1,5 +1,6 @@
 // T, Q, L and X over a table, as words into a lent list: all of them or none.
 #![tactic(auto)]
+
 ghost use Rattle.std.specs.Prelude.{ℕ, ◌≡◌, List, ◌++◌};
 ghost use Rattle.std.proofs.Math.Option.{Option};
 ghost use Rattle.arith.specs.Refusals.{Result, ok};

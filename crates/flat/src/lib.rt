@@ -1,5 +1,6 @@
 // The table of a sheet for C: one list of 7,175 words, its parts one behind the other.
 #![tactic(auto)]
+
 ghost use Rattle.std.specs.Prelude.{◌≡◌};
 ghost use Rattle.flat.specs.Reads.{ReadsTable, stored_parts};
 

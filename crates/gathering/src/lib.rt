@@ -1,5 +1,6 @@
 // All answer lines of a sheet's questions into a lent list, or none.
 #![tactic(auto)]
+
 ghost use Rattle.std.specs.Prelude.{◌≡◌};
 ghost use Rattle.std.proofs.lemmas.List.Edits.{sets};
 ghost use Rattle.arith.specs.Refusals.{ok};

@@ -21,7 +21,7 @@ use Rattle.lower.proofs.StepsFit.{steps_fit}
 use Rattle.steps.specs.Stored.{StoredAt}
 use Rattle.moves.specs.declared.Walk.TheVariants.{Steps}
 use Rattle.moves.specs.Moves.{indices_in}
-use Rattle.moves.specs.Written.{walk_of, steps_of, Wrote}
+use Rattle.moves.specs.Written.{Wrote}
 use Rattle.pointers.specs.OverTables.{chain_over}
 use Rattle.promise.proofs.SameByte.{same_byte}
 use Rattle.promise.proofs.Inside.{inside}

@@ -1,6 +1,5 @@
 -- What is asked of pointers over the tables of a sheet is what is asked of the sheet. Assumes nothing.
-use Prim.Native.Nat.{ℕ, ◌<◌, ◌≤◌}
-use native.Mathlib.Omega.{arith}
+use Prim.Native.Nat.{ℕ, ◌≤◌}
 use mathlib.Core.Path.{◌≡◌, refl, sym, ap, ◌∙◌, fun_ext}
 use mathlib.Core.Bool.{Bool, true, false, cond}
 use mathlib.Core.List.{List}
@@ -8,7 +7,7 @@ use mathlib.Core.Option.{Option, none, some}
 use lib.Dec.{ltb}
 use lib.ListN.{length, get_elem?}
 use borrow.Author.Tests.{le-ltb, ltb-false}
-use Rattle.arith.specs.Refusals.{Result, ok, refused, ◌>>=◌, ◌>>◌, refuse◌when◌, refuse◌unless◌, misread, in_room}
+use Rattle.arith.specs.Refusals.{Result, refused, ◌>>=◌, ◌>>◌, refuse◌when◌, refuse◌unless◌, misread, in_room}
 use Rattle.spirv.specs.Decl.{Decl, is_struct, pointee_of}
 use Rattle.spirv.specs.Rows.{row_at}
 use Rattle.spirv.specs.Reduced.{decl_row}
@@ -26,7 +25,7 @@ use Rattle.laid.specs.Statements.{Tables, offsets_of}
 use Rattle.laid.proofs.OfSheet.{rows_of_sheet, type_test}
 use Rattle.lower.specs.declared.QPtrOp.{QPtrOp}
 use Rattle.lower.specs.Chain.{chain_by, chain_in_room}
-use Rattle.lower.specs.Other.{ArrayLength, length_by, variable_by}
+use Rattle.lower.specs.Other.{length_by, variable_by}
 use Rattle.moves.specs.Moves.{indices_in}
 use Rattle.pointers.specs.OverTables.{pointee_of_row, pointee_at, chain_over}
 use Rattle.joined.specs.Statements.{rows_of, PointeesOfSheet, ChainsOfSheet, LengthsOfSheet, VariablesOfSheet}

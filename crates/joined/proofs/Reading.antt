@@ -1,12 +1,9 @@
 -- The lists that reading writes hold the sheet's types. Assumes nothing.
-use Prim.Native.Nat.{ℕ}
-use mathlib.Core.Path.{◌≡◌, sym, ap, ◌∙◌, subst}
-use mathlib.Core.List.{List}
-use Rattle.arith.specs.Refusals.{Result, ok}
+use mathlib.Core.Path.{◌≡◌, ap, ◌∙◌}
+use Rattle.arith.specs.Refusals.{Result}
 use Rattle.sheet.specs.Sheet.{Sheet}
 use Rattle.sheet.specs.Tables.{over, types_words, members_words, offsets_words}
 use Rattle.reading.specs.Reads.{words_in}
-use Rattle.laid.specs.Statements.{Tables}
 use Rattle.laid.proofs.OfSheet.{sheet_tables}
 use Rattle.joined.specs.Statements.{TablesOfReading}
 

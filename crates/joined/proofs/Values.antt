@@ -5,7 +5,7 @@ use mathlib.Core.Bool.{Bool, true, false, cond}
 use mathlib.Core.List.{List, ◌++◌}
 use lib.Dec.{ltb}
 use lib.ListN.{length}
-use Rattle.arith.specs.Refusals.{Result, ok, ◌>>=◌, ◌>>◌, refuse◌when◌, short_list, in_room}
+use Rattle.arith.specs.Refusals.{ok, ◌>>=◌, ◌>>◌, refuse◌when◌, short_list, in_room}
 use Rattle.shapes.specs.Shapes as def
 use Rattle.shapes.specs.declared.Components.{Components}
 use Rattle.shapes.specs.declared.Components.TheVariants.{Scalar, Elements, Fields}

@@ -1,6 +1,7 @@
 // The answer lines of a sheet's questions, one behind the other, over the tables of the sheet: all of them at a place, or as many whole lines as
 // fit a buffer.
 #![tactic(auto)]
+
 ghost use Rattle.std.specs.Prelude.{◌≡◌};
 ghost use Rattle.text.specs.Printed.{Printed};
 ghost use Rattle.answering.specs.OfTables.{of_tables};

@@ -1,5 +1,6 @@
 // Chains lowered from a pointer's type, over tables of types and layouts (try_lower_access_chain of lower.rs).
 #![tactic(auto)]
+
 ghost use Rattle.std.specs.Prelude.{◌≡◌};
 ghost use Rattle.shapes.specs.Spans.{answer_by};
 ghost use Rattle.shapes.specs.Rows.{answer_at};

@@ -1,5 +1,6 @@
 // The answer lines of C, L and X over tables of types and layouts, printed into a lent slice at a place, as the crate `text` prints.
 #![tactic(auto)]
+
 ghost use Rattle.std.specs.Prelude.{◌≡◌, List, ℕ, ◌*◌, min};
 ghost use Rattle.text.specs.Printed.{Printed};
 ghost use Rattle.answers.specs.Output.{text_of};

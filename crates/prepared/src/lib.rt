@@ -1,5 +1,6 @@
 // The tables of a sheet, ready for questions: its bytes are read, and each type is laid out.
 #![tactic(auto)]
+
 ghost use Rattle.prepared.specs.Prepared.{Prepares};
 
 use reading::SheetAnswer;

@@ -1,6 +1,7 @@
 // Steps of a chain as records, in a slice of records that the caller lends. Each function that has the slice is proved by a walk of its MIR, by
 // hand, and only passes it on or stores what a covered function made; what decides and computes is covered.
 #![tactic(auto)]
+
 ghost use Rattle.std.specs.Prelude.{◌≡◌, ◌<◌, ◌≤◌, pos, neg_ℤ, length};
 ghost use Rattle.steps.specs.Lists.{step_at, steps_in};
 ghost use Rattle.chain.specs.Chains.{room_of};

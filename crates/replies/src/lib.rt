@@ -1,5 +1,6 @@
 // The answer lines of T, E and Q over tables of layouts, printed into a lent slice at a place, as the crate `text` prints.
 #![tactic(auto)]
+
 ghost use Rattle.std.specs.Prelude.{List, ℕ};
 ghost use Rattle.text.specs.Printed.{Printed};
 ghost use Rattle.answers.specs.Output.{text_of};

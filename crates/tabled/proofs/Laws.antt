@@ -14,7 +14,6 @@ use Rattle.spirv.specs.declared.ChainOp.{ChainOp}
 use Rattle.spirv.specs.declared.Index.{Index}
 use Rattle.shapes.specs.declared.LayoutConfig.{LayoutConfig}
 use Rattle.sheet.specs.Sheet.{max_indices}
-use Rattle.sheet.specs.Tables.{over}
 use Rattle.sheet.proofs.Tables.{front}
 use Rattle.text.specs.Printed.{Printed}
 use Rattle.words.specs.Little.{words_of}

@@ -1,5 +1,6 @@
 // Chains lowered over a table: indices come in as bytes, and steps go out as bytes.
 #![tactic(auto)]
+
 ghost use Rattle.std.specs.Prelude.{◌≡◌, ◌/◌, ◌≤◌, length};
 ghost use Rattle.arith.specs.Refusals.{in_room};
 ghost use Rattle.chain.specs.Chains.{room_of};
