@@ -1,4 +1,4 @@
-// A chain's steps as structs, in a slice of them that C lends: proved by a walk of its MIR, by hand.
+// A chain's steps as structs, in a slice of them that C lends.
 ghost use Rattle.std.specs.Prelude.{length};
 ghost use Rattle.tabled.specs.Chains.{chain_in};
 ghost use Rattle.recorded.specs.Records.{Recorded};

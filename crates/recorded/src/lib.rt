@@ -1,5 +1,5 @@
-// Steps of a chain as records, in a slice of records that the caller lends. Each function that has the slice is proved by a walk of its MIR, by
-// hand, and only passes it on or stores what a covered function made; what decides and computes is covered.
+// Steps of a chain as records, in a slice of records that the caller lends. Each function that has the slice only passes it on or stores what
+// another made; what decides and computes stands apart from it.
 #![tactic(auto)]
 
 ghost use Rattle.std.specs.Prelude.{◌≡◌, ◌<◌, ◌≤◌, pos, neg_ℤ, length};
@@ -132,7 +132,7 @@ fn record_at<'a>(
     record_of(steps::step_at(kinds, bytes, bounds, marks, indices, i))
 }
 
-// The first n into the slice: by hand.
+// The first n into the slice.
 fn write_records<'s, 'a>(
     steps: &'s mut [QPtrChainStep],
     n: usize,
@@ -174,7 +174,7 @@ fn fit_few<'a, 'k>(
     fit_in(room, w)
 }
 
-// The records of a chain into the slice: by hand.
+// The records of a chain into the slice.
 fn lower_few<'s, 'a>(
     steps: &'s mut [QPtrChainStep],
     op: u32,
@@ -227,7 +227,7 @@ fn fit_many<'a, 'k>(
     fit_in(room, w)
 }
 
-// The records of a chain into the slice: by hand.
+// The records of a chain into the slice.
 fn lower_many<'s, 'a>(
     steps: &'s mut [QPtrChainStep],
     op: u32,

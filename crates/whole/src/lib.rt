@@ -1,5 +1,6 @@
 // A whole sheet: from its bytes to its answer lines, as the program `lay` writes them.
 #![tactic(auto)]
+
 ghost use Rattle.arith.specs.Refusals.{ok};
 ghost use Rattle.text.specs.Whole.{Whole};
 ghost use Rattle.answers.specs.Output.{lay_output};
