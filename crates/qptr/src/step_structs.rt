@@ -6,8 +6,7 @@ ghost use Rattle.recorded.specs.Records.{Recorded};
 use recorded::QPtrChainStep;
 
 // The steps of a chain over a table, and how many; or minus the refusal, and the structs as they were.
-#[unsafe(no_mangle)]
-pub extern "C" fn qptr_lower_chain_steps<'a, 's>(
+pub fn qptr_lower_chain_steps<'a, 's>(
     table: &'a [u32],
     op: u32,
     ptr: u32,
