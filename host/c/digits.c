@@ -1,6 +1,6 @@
 /* Number printing and reading alone, through libdigits.a, against the host's own: 0 to 70,000, the 64 numbers around each power of ten and of two,
    random ones, signed ones too; and random bytes against a reader of its own. Says what differs; its status is 1 then.
-   cc -O2 host/c/digits.c crates/digits/out/libdigits.a -o digits && ./digits [random numbers] */
+   cc -O2 host/c/digits.c target/staticlib/libdigits.a -o digits && ./digits [random numbers] */
 #include <inttypes.h>
 #include <stdint.h>
 #include <stdio.h>
