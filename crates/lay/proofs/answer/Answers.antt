@@ -1,7 +1,6 @@
 -- The tables that are made ready answer as the sheet does, and a refusal is the sheet's.
-use Rattle.std.proofs.Common.{List, ℕ, length, OnOk, subst, sym, arith, rules}
+use Rattle.std.proofs.Common.{OnOk, subst, sym, arith, rules}
 use Rattle.std.specs.Io.KnownBytes.{Appends}
-use Rattle.prepared.specs.Statements.{Roomy}
 use Rattle.prepared.proofs.Output.{ready_tables, ready_refused}
 use Rattle.lay.proofs.answer.Goals as goal
 

@@ -1,5 +1,5 @@
 -- A sheet that goes on behind 65,537 bytes is refused, and so is its front.
-use Rattle.std.proofs.Common.{◌≡◌, ◌<◌, ◌≤◌, ℕ, Bool, true, false, List, length, take, Ok, Err, OnOk, IfSome, None, Some, refl, sym, ap, subst, ◌∙◌, arith, take_all, length-take}
+use Rattle.std.proofs.Common.{◌≡◌, ◌<◌, ℕ, Bool, true, false, List, length, take, Ok, Err, OnOk, IfSome, None, Some, refl, sym, ap, subst, ◌∙◌, arith, take_all, length-take}
 use borrow.Author.Tests.{lt-leb, leb-true, leb-false}
 use lib.Dec.{leb}
 use Rattle.std.specs.declared.option.Option.{Option}

@@ -1,5 +1,5 @@
 -- What each buffer holds is written, and the buffers add up to all lines.
-use Rattle.std.proofs.Common.{◌≡◌, ◌-◌, ◌<◌, ℕ, Bool, true, false, not, List, [], ◌++◌, length, take, inl, inr, refl, sym, subst, append_assoc, arith}
+use Rattle.std.proofs.Common.{◌≡◌, ◌-◌, ◌<◌, ℕ, Bool, true, false, not, List, [], ◌++◌, length, take, inl, inr, sym, subst, append_assoc, arith}
 use Rattle.std.proofs.KnownBytes.{Appends-nil, Appends-trans}
 use Rattle.std.specs.Io.KnownBytes.{Appends}
 use Rattle.answers.specs.Lines.{Source}
@@ -28,8 +28,7 @@ loop-from-smaller g c = goes_on c.fill-filled.ensures c.if-filled-from.false
 pub loop-from-preserved : goal.loop-from-preserved
 loop-from-preserved g c =
     let (written, appended, streamed) = c.loop-from.invariant in
-    let piece = take c.fill-filled.result.bytes c.fill-filled.new.out in
-    (
+    let piece = take c.fill-filled.result.bytes c.fill-filled.new.out in (
       written ++ piece,
       Appends-trans _ _ _ _ _ appended c.in_ok-write_all.ensures.bytes,
       λ rest s. subst (Streamed _ _ 0) (sym (append_assoc written piece rest)) (streamed (piece ++ rest) (then c.fill-filled.ensures (other _ false c.if-not-filled.false) s)),

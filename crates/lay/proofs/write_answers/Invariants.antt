@@ -1,7 +1,6 @@
 -- A turn goes on in the sheet, and what was written so far and what the buffers from here on hold are what the buffers from the start on hold.
 use Rattle.std.proofs.Common.{ℕ, ◌-◌, List, ◌++◌, length}
 use Rattle.std.specs.Io.KnownBytes.{Appends}
-use Rattle.shapes.specs.declared.LayoutConfig.{LayoutConfig}
 use Rattle.answering.specs.OfTables.{of_tables}
 use Rattle.listing.specs.Listing.{Streamed}
 use Rattle.lay.proofs.write_answers.Given as goal

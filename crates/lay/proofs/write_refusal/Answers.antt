@@ -1,14 +1,12 @@
 -- A refusal's line has 13 bytes at most: a letter, a comma, ten digits and LF. So the list holds it whole.
-use Rattle.std.proofs.Common.{◌≡◌, ◌≢◌, ◌+◌, ◌<◌, ◌≤◌, ◌^◌, ℕ, Bool, true, false, List, [], ◌∷◌, ◌++◌, length, take, drop, OnOk, refl, sym, ap, subst, ◌∙◌, arith, length-append, take_at, length-take-le}
+use Rattle.std.proofs.Common.{◌≡◌, ◌<◌, ◌≤◌, ◌^◌, ℕ, List, [], ◌∷◌, length, take, drop, OnOk, refl, sym, ap, subst, ◌∙◌, arith, length-append, take_at, length-take-le}
 use Prim.Native.Char.{code}
 use borrow.Author.Tests.{le-ltb}
-use lib.Dec.{ltb}
 use Rattle.std.specs.Io.KnownBytes.{Appends}
-use Rattle.arith.specs.Refusals.{Result, ok, refused, ◌>>=◌, ◌>>◌, refuse◌when◌, in_room}
+use Rattle.arith.specs.Refusals.{ok, refused, ◌>>=◌, ◌>>◌, refuse◌when◌, in_room}
 use Rattle.text.specs.Whole.{Whole, over, held, written, answered}
 use Rattle.text.specs.declared.Answer.{Answer}
 use Rattle.text.specs.declared.Answer.TheVariants.{Bytes, Refused}
-use Rattle.decimal.specs.Text.{bytes}
 use Rattle.decimal.specs.Decimal.{decimal}
 use Rattle.decimal.proofs.BothWays.{ten_digits}
 use Rattle.answers.specs.Output.{text_of, printed}
