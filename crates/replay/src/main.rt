@@ -250,6 +250,9 @@ fn main(rt: HostRuntime) -> io::Result<()> {
         answers,
         differing,
     } = total;
-    writeln!(out, "{sheets} sheets and {answers} answers agree, {differing} lines differ")?;
+    writeln!(
+        out,
+        "{sheets} sheets and {answers} answers agree, {differing} lines differ"
+    )?;
     out.flush()
 }
