@@ -1,46 +1,54 @@
 // Reads a sheet from standard input and writes its answers to standard output: a line per question, or one refusal line for a bad sheet.
-// What is written comes from proved functions: `prepare` reads the whole sheet before anything is written, `fill` gives its lines a buffer at a time,
-// and by the theorem `streamed_sheet` of the crate `whole` the buffers add up to the sheet's answer. No contract can say what a call of C's reads
-// or writes, so the functions here are only proved safe and ending.
+// `prepare` reads the whole sheet before anything is written, and `fill` gives its lines a buffer at a time. `run` says that what it writes is what
+// document 01 says of what it reads, at every reader and writer whose bytes are known. No contract can say what the system reads or writes.
 #![tactic(auto)]
-use libc::{STDIN_FILENO, STDOUT_FILENO};
+
+ghost use Rattle.std.specs.Prelude.{◌≡◌, take, IfOk, IfSome, OnOk};
+ghost use Rattle.std.specs.Io.KnownBytes.{Appends};
+ghost use Rattle.arith.specs.Refusals.{refused};
+ghost use Rattle.answers.specs.Output.{text_of, lay_output};
+ghost use Rattle.answering.specs.OfTables.{of_tables};
+ghost use Rattle.listing.specs.Listing.{lines_from};
+
 use prepared::Ready;
 use shapes::LayoutConfig;
+use std::alloc::Global;
+use std::io;
+use std::io::{ErrorKind, Read, Write};
 use text::Answer;
 
-// As libc::read, until the list is full or the input ends: -1, or how many bytes stand in front of the list.
-fn read_all(sheet: &mut [u8]) -> isize {
-    let mut done = 0;
-    while done < sheet.len() {
-        let part = &mut sheet[done..];
-        let got = libc::read(STDIN_FILENO, part);
-        if got < 0 {
-            return -1;
-        }
-        let n = io::count(got, part);
-        if n == 0 {
-            return done as isize;
-        }
-        done += n;
-    }
-    done as isize
+// One byte more than the longest sheet has, so that a longer one is seen to be too long.
+const MOST_READ: u64 = 65_537;
+
+const BUFFER: usize = 65_536;
+
+// The input to its end, or its first 65,537 bytes.
+fn read_all<R: Read + Drop>(alloc: Global, input: R) -> io::Result<Vec<u8>>
+    ensures { IfOk result (λ sheet. IfSome (R.remaining input) (λ bytes. sheet.items ≡ take 65537 bytes)) }
+{
+    let mut sheet = Vec::new(alloc);
+    input.take(MOST_READ).read_to_end(&mut sheet)?;
+    Ok(sheet)
 }
 
-// A refusal line, "e,4294967295" and LF at the longest. Whether it was written.
-fn write_refusal(e: u32) -> bool {
+// A refusal line, "e,4294967295" and LF at the longest.
+fn write_refusal<W: Write>(out: &mut W, e: u32) -> io::Result<()>
+    ensures { OnOk result (Appends (W.contents out.old) (W.contents out.new) (text_of (refused e))) }
+{
     let mut line = [0u8; 13];
     match fitting::put_refusal_line(&mut line, e) {
-        Answer::Bytes(n) => io::write_all(STDOUT_FILENO, &line[..n]),
-        Answer::Refused(_) => false,
+        Answer::Bytes(n) => out.write_all(&line[..n]),
+        Answer::Refused(_) => unreachable!(),
     }
 }
 
-// The lines of all questions, a buffer of whole lines at a time. Whether they were written.
+// The lines of all questions, a buffer of whole lines at a time.
 // No line has more than 11,324 bytes. T: "t", ",ab", 5 numbers and up to 1,024 offsets, each behind a comma and of up to 10 digits, and LF, that is
 // 1 + 3 + 1,029 * 11 + 1. Q: fewer numbers. C: "c", up to 256 steps and LF, where a step is at the longest "D", two numbers and an unknown
 // index, each behind a comma: 1 + 256 * (2 + 11 + 11 + 12) + 1. So a buffer of as many bytes always takes a line; the theorem `longest_line` of
 // the crate `longest` has 16,384.
-fn write_answers(
+fn write_answers<W: Write>(
+    out: &mut W,
     sheet: &[u8],
     cfg: LayoutConfig,
     n: u32,
@@ -49,36 +57,39 @@ fn write_answers(
     offsets: &[u32],
     members: &[u32],
     buffer: &mut [u8],
-) -> bool {
+) -> io::Result<()>
+    ensures { OnOk result (Appends (W.contents out.old) (W.contents out.new)
+        (lines_from (of_tables cfg n types.now layouts.now offsets.now members.now) sheet.now 0)) }
+{
     let mut from = 0;
     loop {
         let filled = listing::fill(
             sheet, from, cfg, n, types, layouts, offsets, members, buffer,
         );
-        let bytes = filled.bytes;
-        if !io::write_all(STDOUT_FILENO, &buffer[..bytes]) {
-            return false;
-        }
+        out.write_all(&buffer[..filled.bytes])?;
         if !filled.more {
-            return true;
+            return Ok(());
         }
         if filled.next <= from {
-            return false;
+            return Err(io::Error::new(ErrorKind::InvalidData, "a line is longer than the buffer"));
         }
         from = filled.next;
     }
 }
 
-// Whether all was written.
-fn answer(sheet: &[u8]) -> bool {
+// The answer of a sheet.
+fn answer<W: Write>(out: &mut W, sheet: &[u8]) -> io::Result<()>
+    ensures { OnOk result (Appends (W.contents out.old) (W.contents out.new) (lay_output sheet.now)) }
+{
     let mut types = [0u32; 1536];
     let mut members = [0u32; 1024];
     let mut offsets = [0u32; 1024];
     let mut layouts = [0u32; 2560];
     match prepared::prepare(sheet, &mut types, &mut members, &mut offsets, &mut layouts) {
         Ready::Tables { cfg, n } => {
-            let mut buffer = io::large_buffer();
+            let mut buffer = [0u8; BUFFER];
             write_answers(
+                out,
                 sheet,
                 cfg,
                 n,
@@ -89,19 +100,18 @@ fn answer(sheet: &[u8]) -> bool {
                 &mut buffer,
             )
         }
-        Ready::Refused(e) => write_refusal(e),
+        Ready::Refused(e) => write_refusal(out, e),
     }
 }
 
-fn main() {
-    let mut sheet = [0u8; 65537];
-    let got = read_all(&mut sheet);
-    if got < 0 {
-        os::fail(b"lay: standard input");
-        return;
-    }
-    let n = io::count(got, &sheet);
-    if !answer(&sheet[..n]) {
-        os::fail(b"lay: standard output");
-    }
+fn run<R: Read + Drop, W: Write>(alloc: Global, input: R, out: &mut W) -> io::Result<()>
+    ensures { OnOk result (IfSome (R.remaining input) (λ bytes.
+        Appends (W.contents out.old) (W.contents out.new) (lay_output bytes))) }
+{
+    let sheet = read_all(alloc, input)?;
+    answer(out, &sheet)
+}
+
+fn main(rt: HostRuntime) -> io::Result<()> {
+    run(rt.alloc(), rt.reader(), &mut io::writer(&rt))
 }

@@ -1,16 +1,25 @@
 // Answers stored sheets by `answer_sheet`, and compares each line with the stored one. Its arguments name bundles: files of records, each a line
 // `SHEETBYTES ANSWERBYTES NAME`, then the bytes of the sheet, then those of its answers. Writes each line that differs, then how many agree.
-// Its functions are only proved safe and ending, but for `part` and `same`.
+// Its functions are only proved safe and ending, but for `part`, `same` and `behind`.
 #![tactic(auto)]
+
 ghost use Rattle.std.specs.Prelude.{◌≡◌, ◌<◌, ◌≤◌, length, take, drop};
 ghost use Rattle.spirv.specs.Rows.{same_words};
 
 use decimal::Reading;
-use libc::STDOUT_FILENO;
+use std::io::{BufWriter, Read, Write};
+use std::rt::Files;
+use std::{env, fs, io};
 use text::Answer;
 
+// The longest answers that are compared.
+const MOST_ANSWERED: usize = 65_536;
+
+// The longest bundle that is read; of a longer one so many bytes are.
+const MOST_READ: u64 = 262_144;
+
 // How many sheets and answers agree, and how many lines differ.
-#[derive(Clone, Copy)]
+#[derive(Clone, Copy, Default)]
 struct Count {
     sheets: u64,
     answers: u64,
@@ -30,14 +39,14 @@ enum Record {
 }
 
 fn one_more(n: u64) -> u64 {
-    std::num::wrapping_add_u64(n, 1)
+    n.wrapping_add(1)
 }
 
 fn plus(a: Count, b: Count) -> Count {
     Count {
-        sheets: std::num::wrapping_add_u64(a.sheets, b.sheets),
-        answers: std::num::wrapping_add_u64(a.answers, b.answers),
-        differing: std::num::wrapping_add_u64(a.differing, b.differing),
+        sheets: a.sheets.wrapping_add(b.sheets),
+        answers: a.answers.wrapping_add(b.answers),
+        differing: a.differing.wrapping_add(b.differing),
     }
 }
 
@@ -68,32 +77,20 @@ fn between(s: &[u8], from: usize, to: usize) -> &[u8] {
 fn same(a: &[u8], b: &[u8]) -> bool
     ensures { result ≡ same_words a.now b.now }
 {
-    if a.len() != b.len() {
-        return false;
-    }
-    let mut i = 0;
-    while i < a.len() {
-        if a[i] != b[i] {
-            return false;
-        }
-        i += 1;
-    }
-    true
+    a == b
 }
 
 // The place behind the next byte c, from a place on; where there is none the end.
 fn behind(s: &[u8], at: usize, c: u8) -> usize
-    ensures lower_bound { at ≤ result }
-    ensures lower_bound_2 { at < length s.now → at < result }
+    ensures not_before { at ≤ result }
+    ensures later { at < length s.now → at < result }
 {
-    let mut i = at;
-    while i < s.len() {
-        i += 1;
-        if s[i - 1] == c {
-            return i;
+    for i in at..s.len() {
+        if s[i] == c {
+            return i + 1;
         }
     }
-    i
+    s.len().max(at)
 }
 
 fn count_lines(s: &[u8]) -> u64 {
@@ -108,16 +105,22 @@ fn count_lines(s: &[u8]) -> u64 {
 
 // ---- a sheet
 
-fn say(what: &[u8], line: &[u8]) {
-    io::write_all(STDOUT_FILENO, what);
-    io::write_all(STDOUT_FILENO, line);
-    if line.len() == 0 {
-        io::write_all(STDOUT_FILENO, b"no line\n");
+fn say(out: &mut impl Write, what: &[u8], line: &[u8]) -> io::Result<()> {
+    out.write_all(what)?;
+    out.write_all(line)?;
+    if line.is_empty() {
+        out.write_all(b"no line\n")?;
     }
+    Ok(())
 }
 
 // Says which lines differ, each behind the sheet's name, which has its LF.
-fn compare_lines(name: &[u8], stored: &[u8], given: &[u8]) -> Count {
+fn compare_lines(
+    out: &mut impl Write,
+    name: &[u8],
+    stored: &[u8],
+    given: &[u8],
+) -> io::Result<Count> {
     let mut answers = 0;
     let mut differing = 0;
     let mut i = 0;
@@ -129,36 +132,41 @@ fn compare_lines(name: &[u8], stored: &[u8], given: &[u8]) -> Count {
             answers = one_more(answers);
         } else {
             differing = one_more(differing);
-            io::write_all(STDOUT_FILENO, name);
-            say(b" stored   ", between(stored, i, e));
-            say(b" answered ", between(given, j, f));
+            out.write_all(name)?;
+            say(out, b" stored   ", between(stored, i, e))?;
+            say(out, b" answered ", between(given, j, f))?;
         }
         i = e;
         j = f;
     }
-    Count {
+    Ok(Count {
         sheets: 0,
         answers,
         differing,
-    }
+    })
 }
 
-fn compare(name: &[u8], stored: &[u8], given: &[u8]) -> Count {
+fn compare(out: &mut impl Write, name: &[u8], stored: &[u8], given: &[u8]) -> io::Result<Count> {
     if same(stored, given) {
-        return Count {
+        return Ok(Count {
             sheets: 1,
             answers: count_lines(stored),
             differing: 0,
-        };
+        });
     }
-    compare_lines(name, stored, given)
+    compare_lines(out, name, stored, given)
 }
 
-fn replay_sheet(name: &[u8], sheet: &[u8], stored: &[u8]) -> Count {
-    let mut out = io::large_buffer();
-    match whole::answer_sheet(sheet, &mut out) {
-        Answer::Bytes(n) => compare(name, stored, part(&out, 0, n)),
-        Answer::Refused(_) => compare(name, stored, b"more than 65536 bytes\n"),
+fn replay_sheet(
+    out: &mut impl Write,
+    name: &[u8],
+    sheet: &[u8],
+    stored: &[u8],
+) -> io::Result<Count> {
+    let mut answered = [0u8; MOST_ANSWERED];
+    match whole::answer_sheet(sheet, &mut answered) {
+        Answer::Bytes(n) => compare(out, name, stored, part(&answered, 0, n)),
+        Answer::Refused(_) => compare(out, name, stored, b"more than 65536 bytes\n"),
     }
 }
 
@@ -178,21 +186,17 @@ fn read_record(bundle: &[u8], at: usize) -> Record {
     else {
         return Record::Misread;
     };
-    let answers = std::num::wrapping_add_usize(sheet, size as usize);
+    let answers = sheet.wrapping_add(size as usize);
     Record::At {
         name,
         sheet,
         answers,
-        next: std::num::wrapping_add_usize(answers, answers_size as usize),
+        next: answers.wrapping_add(answers_size as usize),
     }
 }
 
-fn replay(bundle: &[u8]) -> Count {
-    let mut total = Count {
-        sheets: 0,
-        answers: 0,
-        differing: 0,
-    };
+fn replay(out: &mut impl Write, bundle: &[u8]) -> io::Result<Count> {
+    let mut total = Count::default();
     let mut at = 0;
     while at < bundle.len() {
         let Record::At {
@@ -202,59 +206,53 @@ fn replay(bundle: &[u8]) -> Count {
             next,
         } = read_record(bundle, at)
         else {
-            io::write_all(STDOUT_FILENO, b"a record is misread\n");
-            return total;
+            out.write_all(b"a record is misread\n")?;
+            return Ok(total);
         };
         let called = between(bundle, name, sheet);
         let given = between(bundle, sheet, answers);
         let stored = between(bundle, answers, next);
-        total = plus(total, replay_sheet(called, given, stored));
+        total = plus(total, replay_sheet(out, called, given, stored)?);
         if next <= at {
-            return total;
+            return Ok(total);
         }
         at = next;
     }
-    total
+    Ok(total)
 }
 
-fn replay_file(i: usize) -> Count {
-    let none = Count {
-        sheets: 0,
-        answers: 0,
-        differing: 0,
-    };
-    let mut name = io::buffer();
-    let length = os::arg(i, &mut name);
-    let fd = os::open_read(&name[..length]);
-    if fd < 0 {
-        os::fail(&name[..length]);
-        return none;
-    }
-    let mut bundle = [0u8; 262144];
-    let n = io::read_full(fd, &mut bundle);
-    libc::close(fd);
-    replay(&bundle[..n])
-}
-
-fn main() {
-    let mut total = Count {
-        sheets: 0,
-        answers: 0,
-        differing: 0,
-    };
-    let mut i: usize = 1;
-    while i < os::arg_count() {
-        total = plus(total, replay_file(i));
-        if i < 4096 {
-            i += 1;
-        } else {
-            return;
+// A file that can't be opened is named on standard error, and counts for nothing.
+fn replay_file<R: Files + Alloc + Eprint>(
+    rt: &R,
+    out: &mut impl Write,
+    name: &str,
+) -> io::Result<Count> {
+    let file = match fs::open(rt, name) {
+        Ok(file) => file,
+        Err(e) => {
+            eprintln!(rt; "{name}: {e}")?;
+            return Ok(Count::default());
         }
+    };
+    let mut bundle = Vec::new(rt.alloc());
+    file.take(MOST_READ).read_to_end(&mut bundle)?;
+    replay(out, &bundle)
+}
+
+fn main(rt: HostRuntime) -> io::Result<()> {
+    let mut out = BufWriter::new(rt.alloc(), io::writer(&rt))?;
+    let mut total = Count::default();
+    for name in env::args(&rt)?.skip(1) {
+        total = plus(total, replay_file(&rt, &mut out, name.as_str())?);
     }
-    io::print_decimal(STDOUT_FILENO, total.sheets);
-    io::write_all(STDOUT_FILENO, b" sheets and ");
-    io::print_decimal(STDOUT_FILENO, total.answers);
-    io::write_all(STDOUT_FILENO, b" answers agree, ");
-    io::print_decimal(STDOUT_FILENO, total.differing);
-    io::write_all(STDOUT_FILENO, b" lines differ\n");
+    let Count {
+        sheets,
+        answers,
+        differing,
+    } = total;
+    writeln!(
+        out,
+        "{sheets} sheets and {answers} answers agree, {differing} lines differ"
+    )?;
+    out.flush()
 }

@@ -1,14 +1,21 @@
 // Reads the sheets that its arguments name. For each it writes a line: the name, and the refusal, or how many types, members and questions
 // there are and a fold of each table. Tested against tools/tables; its own functions are proved safe, and promise nothing more.
 #![tactic(auto)]
+
 ghost use Rattle.std.specs.Prelude.{◌≤◌};
 
 use asking::NextQuestion;
 use lines::Ask;
 use reading::SheetAnswer;
 use spirv::ChainOp;
+use std::io::{BufWriter, Read, Write};
+use std::rt::Files;
+use std::{env, fs, io};
 
 const FOLD: u64 = 4_294_967_296;
+
+// More than the longest sheet has, so that a longer one is seen to be too long.
+const MOST_READ: u64 = 65_540;
 
 // How many questions there are, and the fold of their words.
 #[derive(Clone, Copy)]
@@ -18,7 +25,7 @@ pub struct Asked {
 }
 
 fn wide(x: u32) -> u64 {
-    x as u64
+    u64::from(x)
 }
 
 fn fold_word(h: u64, w: u64) -> u64 {
@@ -28,10 +35,8 @@ fn fold_word(h: u64, w: u64) -> u64 {
 // The fold of the first words of a list.
 fn fold(start: u64, list: &[u32], count: usize) -> u64 {
     let mut h = start;
-    let mut i: usize = 0;
-    while i < count && i < list.len() {
-        h = fold_word(h, wide(list[i]));
-        i += 1;
+    for w in list.iter().take(count) {
+        h = fold_word(h, wide(*w));
     }
     h
 }
@@ -114,72 +119,63 @@ fn row_members(types: &[u32], i: usize) -> usize
 // The members of the structs among the first types.
 fn member_count(types: &[u32], count: usize) -> usize {
     let mut n: usize = 0;
-    let mut i: usize = 0;
-    while i < count {
+    for i in 0..count {
         if n <= 1024 {
             n += row_members(types, i);
         }
-        i += 1;
     }
     n
 }
 
-fn number(n: u64) {
-    io::write_all(1, b" ");
-    io::print_decimal(1, n);
+fn number(out: &mut impl Write, n: u64) -> io::Result<()> {
+    write!(out, " {n}")
 }
 
-fn show(sheet: &[u8]) {
+fn show(out: &mut impl Write, sheet: &[u8]) -> io::Result<()> {
     let mut setting = [0u32; 6];
     let mut types = [0u32; 1536];
     let mut members = [0u32; 1024];
     let mut given = [0u32; 1024];
     let mut indices = [0u32; 510];
     match reading::read_sheet(sheet, &mut setting, &mut types, &mut members, &mut given) {
-        SheetAnswer::Refused(n) => {
-            io::write_all(1, b" e,");
-            io::print_decimal(1, wide(n));
-        }
+        SheetAnswer::Refused(n) => write!(out, " e,{n}")?,
         SheetAnswer::Types(ts) => {
             let ms = member_count(&types, ts as usize);
             let asked = fold_questions(sheet, &mut indices);
-            number(wide(ts));
-            number(ms as u64);
-            number(asked.count as u64);
+            number(out, wide(ts))?;
+            number(out, ms as u64)?;
+            number(out, asked.count as u64)?;
             if ts <= 256 {
-                number(fold(fold(7, &setting, 6), &types, 6 * (ts as usize)));
+                number(out, fold(fold(7, &setting, 6), &types, 6 * (ts as usize)))?;
             }
-            number(fold(7, &members, ms));
-            number(fold(7, &given, ms));
-            number(asked.fold);
+            number(out, fold(7, &members, ms))?;
+            number(out, fold(7, &given, ms))?;
+            number(out, asked.fold)?;
         }
     }
-    io::write_all(1, b"\n");
+    out.write_all(b"\n")
 }
 
-fn show_file(i: usize) {
-    let mut name = io::buffer();
-    let length = os::arg(i, &mut name);
-    let fd = os::open_read(&name[..length]);
-    if fd < 0 {
-        os::fail(&name[..length]);
-        return;
-    }
-    let mut sheet = [0u8; 65540];
-    let n = io::read_full(fd, &mut sheet);
-    libc::close(fd);
-    io::write_all(1, &name[..length]);
-    show(&sheet[..n]);
+// A file that can't be opened is named on standard error, and left out.
+fn show_file<R: Files + Alloc + Eprint>(
+    rt: &R,
+    out: &mut impl Write,
+    name: &str,
+) -> io::Result<()> {
+    let file = match fs::open(rt, name) {
+        Ok(file) => file,
+        Err(e) => return eprintln!(rt; "{name}: {e}"),
+    };
+    let mut sheet = Vec::new(rt.alloc());
+    file.take(MOST_READ).read_to_end(&mut sheet)?;
+    write!(out, "{name}")?;
+    show(out, &sheet)
 }
 
-fn main() {
-    let mut i: usize = 1;
-    while i < os::arg_count() {
-        show_file(i);
-        if i < 4096 {
-            i += 1;
-        } else {
-            return;
-        }
+fn main(rt: HostRuntime) -> io::Result<()> {
+    let mut out = BufWriter::new(rt.alloc(), io::writer(&rt))?;
+    for name in env::args(&rt)?.skip(1) {
+        show_file(&rt, &mut out, name.as_str())?;
     }
+    out.flush()
 }

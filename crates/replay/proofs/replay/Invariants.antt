@@ -1,0 +1,6 @@
+-- A turn goes on in the bundle.
+use Rattle.std.proofs.Common.{◌-◌, length}
+use Rattle.replay.proofs.replay.Given as goal
+
+abbrev pub decreases-loop-at : goal.decreases-loop-at
+decreases-loop-at g l = length l.bundle - l.at
