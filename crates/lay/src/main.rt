@@ -1,6 +1,6 @@
 // Reads a sheet from standard input and writes its answers to standard output: a line per question, or one refusal line for a bad sheet.
-// `prepare` reads the whole sheet before anything is written, and `fill` gives its lines a buffer at a time. `run` says that what it writes is what
-// document 01 says of what it reads, at every reader and writer whose bytes are known. No contract can say what the system reads or writes.
+// `prepare` reads the whole sheet before anything is written, and `fill` gives its lines a buffer at a time. `run` says that it writes `lay_output` of
+// what it reads, at every reader and writer whose bytes are known. No contract can say what the system reads or writes.
 #![tactic(auto)]
 
 ghost use Rattle.std.specs.Prelude.{◌≡◌, ◌≤◌, length, take, IfOk, IfSome, OnOk};
