@@ -1,9 +1,9 @@
 // Reads a sheet from standard input and writes its answers to standard output: a line per question, or one refusal line for a bad sheet.
-// `prepare` reads the whole sheet before anything is written, and `fill` gives its lines a buffer at a time. `run` says that what it writes is what
-// document 01 says of what it reads, at every reader and writer whose bytes are known. No contract can say what the system reads or writes.
+// `prepare` reads the whole sheet before anything is written, and `fill` gives its lines a buffer at a time. `run` says that it writes `lay_output` of
+// what it reads, at every reader and writer whose bytes are known. No contract can say what the system reads or writes.
 #![tactic(auto)]
 
-ghost use Rattle.std.specs.Prelude.{◌≡◌, take, IfOk, IfSome, OnOk};
+ghost use Rattle.std.specs.Prelude.{◌≡◌, ◌≤◌, length, take, IfOk, IfSome, OnOk};
 ghost use Rattle.std.specs.Io.KnownBytes.{Appends};
 ghost use Rattle.arith.specs.Refusals.{refused};
 ghost use Rattle.answers.specs.Output.{text_of, lay_output};
@@ -12,23 +12,29 @@ ghost use Rattle.listing.specs.Listing.{lines_from};
 
 use prepared::Ready;
 use shapes::LayoutConfig;
-use std::alloc::Global;
 use std::io;
 use std::io::{ErrorKind, Read, Write};
 use text::Answer;
 
 // One byte more than the longest sheet has, so that a longer one is seen to be too long.
-const MOST_READ: u64 = 65_537;
+const MOST_READ: usize = 65_537;
 
 const BUFFER: usize = 65_536;
 
-// The input to its end, or its first 65,537 bytes.
-fn read_all<R: Read + Drop>(alloc: Global, input: R) -> io::Result<Vec<u8>>
-    ensures { IfOk result (λ sheet. IfSome (R.remaining input) (λ bytes. sheet.items ≡ take 65537 bytes)) }
+// The input to its end, or as much as the list holds, in front of the list; and how many bytes that is.
+fn read_all<R: Read>(input: &mut R, sheet: &mut [u8]) -> io::Result<usize>
+    ensures within { IfOk result (λ n. n ≤ length sheet.new) }
+    ensures front { IfOk result (λ n. IfSome (R.remaining input.old) (λ bytes. take n sheet.new ≡ take (length sheet.old) bytes)) }
 {
-    let mut sheet = Vec::new(alloc);
-    input.take(MOST_READ).read_to_end(&mut sheet)?;
-    Ok(sheet)
+    let mut done = 0;
+    while done < sheet.len() {
+        let n = input.read(&mut sheet[done..])?;
+        if n == 0 {
+            return Ok(done);
+        }
+        done += n;
+    }
+    Ok(done)
 }
 
 // A refusal line, "e,4294967295" and LF at the longest.
@@ -104,14 +110,15 @@ fn answer<W: Write>(out: &mut W, sheet: &[u8]) -> io::Result<()>
     }
 }
 
-fn run<R: Read + Drop, W: Write>(alloc: Global, input: R, out: &mut W) -> io::Result<()>
-    ensures { OnOk result (IfSome (R.remaining input) (λ bytes.
+fn run<R: Read, W: Write>(input: &mut R, out: &mut W) -> io::Result<()>
+    ensures { OnOk result (IfSome (R.remaining input.old) (λ bytes.
         Appends (W.contents out.old) (W.contents out.new) (lay_output bytes))) }
 {
-    let sheet = read_all(alloc, input)?;
-    answer(out, &sheet)
+    let mut sheet = [0u8; MOST_READ];
+    let n = read_all(input, &mut sheet)?;
+    answer(out, &sheet[..n])
 }
 
 fn main(rt: HostRuntime) -> io::Result<()> {
-    run(rt.alloc(), rt.reader(), &mut io::writer(&rt))
+    run(&mut rt.reader(), &mut io::writer(&rt))
 }

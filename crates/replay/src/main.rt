@@ -3,11 +3,11 @@
 // Its functions are only proved safe and ending, but for `part`, `same` and `behind`.
 #![tactic(auto)]
 
-ghost use Rattle.std.specs.Prelude.{◌≡◌, ◌<◌, ◌≤◌, length, take, drop};
+ghost use Rattle.std.specs.Prelude.{◌≡◌, ◌<◌, ◌≤◌, length, take, drop, IfOk};
 ghost use Rattle.spirv.specs.Rows.{same_words};
 
 use decimal::Reading;
-use std::io::{BufWriter, Read, Write};
+use std::io::{Read, Write};
 use std::rt::Files;
 use std::{env, fs, io};
 use text::Answer;
@@ -16,7 +16,7 @@ use text::Answer;
 const MOST_ANSWERED: usize = 65_536;
 
 // The longest bundle that is read; of a longer one so many bytes are.
-const MOST_READ: u64 = 262_144;
+const MOST_READ: usize = 262_144;
 
 // How many sheets and answers agree, and how many lines differ.
 #[derive(Clone, Copy, Default)]
@@ -221,26 +221,37 @@ fn replay(out: &mut impl Write, bundle: &[u8]) -> io::Result<Count> {
     Ok(total)
 }
 
+// The input to its end, or as much as the list holds, in front of the list; and how many bytes that is.
+fn read_full(input: &mut impl Read, list: &mut [u8]) -> io::Result<usize>
+    ensures { IfOk result (λ n. n ≤ length list.new) }
+{
+    let mut done = 0;
+    while done < list.len() {
+        let n = input.read(&mut list[done..])?;
+        if n == 0 {
+            return Ok(done);
+        }
+        done += n;
+    }
+    Ok(done)
+}
+
 // A file that can't be opened is named on standard error, and counts for nothing.
-fn replay_file<R: Files + Alloc + Eprint>(
-    rt: &R,
-    out: &mut impl Write,
-    name: &str,
-) -> io::Result<Count> {
-    let file = match fs::open(rt, name) {
+fn replay_file<R: Files + Eprint>(rt: &R, out: &mut impl Write, name: &str) -> io::Result<Count> {
+    let mut file = match fs::open(rt, name) {
         Ok(file) => file,
         Err(e) => {
             eprintln!(rt; "{name}: {e}")?;
             return Ok(Count::default());
         }
     };
-    let mut bundle = Vec::new(rt.alloc());
-    file.take(MOST_READ).read_to_end(&mut bundle)?;
-    replay(out, &bundle)
+    let mut bundle = [0u8; MOST_READ];
+    let n = read_full(&mut file, &mut bundle)?;
+    replay(out, &bundle[..n])
 }
 
 fn main(rt: HostRuntime) -> io::Result<()> {
-    let mut out = BufWriter::new(rt.alloc(), io::writer(&rt))?;
+    let mut out = io::writer(&rt);
     let mut total = Count::default();
     for name in env::args(&rt)?.skip(1) {
         total = plus(total, replay_file(&rt, &mut out, name.as_str())?);

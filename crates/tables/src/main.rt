@@ -2,20 +2,20 @@
 // there are and a fold of each table. Tested against tools/tables; its own functions are proved safe, and promise nothing more.
 #![tactic(auto)]
 
-ghost use Rattle.std.specs.Prelude.{◌≤◌};
+ghost use Rattle.std.specs.Prelude.{◌≤◌, length, IfOk};
 
 use asking::NextQuestion;
 use lines::Ask;
 use reading::SheetAnswer;
 use spirv::ChainOp;
-use std::io::{BufWriter, Read, Write};
+use std::io::{Read, Write};
 use std::rt::Files;
 use std::{env, fs, io};
 
 const FOLD: u64 = 4_294_967_296;
 
 // More than the longest sheet has, so that a longer one is seen to be too long.
-const MOST_READ: u64 = 65_540;
+const MOST_READ: usize = 65_540;
 
 // How many questions there are, and the fold of their words.
 #[derive(Clone, Copy)]
@@ -156,24 +156,35 @@ fn show(out: &mut impl Write, sheet: &[u8]) -> io::Result<()> {
     out.write_all(b"\n")
 }
 
+// The input to its end, or as much as the list holds, in front of the list; and how many bytes that is.
+fn read_full(input: &mut impl Read, list: &mut [u8]) -> io::Result<usize>
+    ensures { IfOk result (λ n. n ≤ length list.new) }
+{
+    let mut done = 0;
+    while done < list.len() {
+        let n = input.read(&mut list[done..])?;
+        if n == 0 {
+            return Ok(done);
+        }
+        done += n;
+    }
+    Ok(done)
+}
+
 // A file that can't be opened is named on standard error, and left out.
-fn show_file<R: Files + Alloc + Eprint>(
-    rt: &R,
-    out: &mut impl Write,
-    name: &str,
-) -> io::Result<()> {
-    let file = match fs::open(rt, name) {
+fn show_file<R: Files + Eprint>(rt: &R, out: &mut impl Write, name: &str) -> io::Result<()> {
+    let mut file = match fs::open(rt, name) {
         Ok(file) => file,
         Err(e) => return eprintln!(rt; "{name}: {e}"),
     };
-    let mut sheet = Vec::new(rt.alloc());
-    file.take(MOST_READ).read_to_end(&mut sheet)?;
+    let mut sheet = [0u8; MOST_READ];
+    let n = read_full(&mut file, &mut sheet)?;
     write!(out, "{name}")?;
-    show(out, &sheet)
+    show(out, &sheet[..n])
 }
 
 fn main(rt: HostRuntime) -> io::Result<()> {
-    let mut out = BufWriter::new(rt.alloc(), io::writer(&rt))?;
+    let mut out = io::writer(&rt);
     for name in env::args(&rt)?.skip(1) {
         show_file(&rt, &mut out, name.as_str())?;
     }

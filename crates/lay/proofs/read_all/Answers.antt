@@ -1,18 +1,34 @@
--- What `take` leaves of the input is its front.
-use Rattle.std.proofs.Common.{◌≡◌, ℕ, List, [], ◌++◌, take, IfSome, None, Some}
-use Rattle.std.specs.declared.option.Option.{Option}
-use Rattle.std.specs.Option.{option_map}
-use Rattle.std.specs.declared.io.traits.Take.{Take}
-use Rattle.std.specs.Io.Take.{take_limit, take_inner, take_remaining}
+-- What a read gives stands behind what was read before.
+use Rattle.std.proofs.Common.{◌≡◌, ◌≤◌, ◌+◌, ℕ, List, ◌++◌, length, take, Option, None, Some, sym, ap, ◌∙◌, arith, append_assoc, length-append}
+use Rattle.std.proofs.Math.Seq.{take-append-add, length-take-le}
+use Rattle.std.proofs.lemmas.List.{take-append-le}
+use borrow.Rule.Slice.PartMut.{post_of, put_mid}
+use Rattle.std.specs.Io.KnownBytes.{Consumes}
 use Rattle.lay.proofs.read_all.Goals as goal
 
-front : {R : Type 0} (remaining : R → Option (List ℕ)) (t : Take R) (input : R) (old new : List ℕ) → take_limit t ≡ 65537 → take_inner t ≡ input → old ≡ []
-    → IfSome (take_remaining remaining t) (λ xs. new ≡ old ++ xs) → IfSome (remaining input) (λ bytes. new ≡ take 65537 bytes)
-front {R} remaining t input old new l i o h = by (remaining input) (rw (l, i, o) at h)
-  where
-    by : (known : Option (List ℕ)) → IfSome (option_map (take 65537) known) (λ xs. new ≡ xs) → IfSome known (λ bytes. new ≡ take 65537 bytes)
-    by None h = tt
-    by (Some bytes) h = h
+behind : (d n k : ℕ) (s buf : List ℕ) → d ≤ length s → n ≤ length buf → take (d + n) (put_mid d k s buf) ≡ take d s ++ take n buf
+behind d n k s buf h g =
+    ap (λ (m : ℕ). take (m + n) (put_mid d k s buf)) (sym (length-take-le d s h))
+    ∙ take-append-add (take d s) (buf ++ post_of d k s) n
+    ∙ ap (λ (l : List ℕ). take d s ++ l) (take-append-le n buf (post_of d k s) g)
 
-pub returns : goal.returns
-returns g c = front g.R.Read.remaining c.take.result c.args.input c.new-sheet.result.items c.read_to_end.new.buf.items c.take.ensures.limit c.take.ensures.inner c.new-sheet.ensures.items c.in_ok-read_to_end.ensures.bytes
+more_read : (old mid new : Option (List ℕ)) (d n k : ℕ) (s buf : List ℕ) → d ≤ length s → n ≤ length buf → Consumes old mid (take d s) → Consumes mid new (take n buf)
+    → Consumes old new (take (d + n) (put_mid d k s buf))
+more_read None mid new d n k s buf h g before now = tt
+more_read (Some xs) None new d n k s buf h g before now = absurd before
+more_read (Some xs) (Some ys) None d n k s buf h g before now = absurd now
+more_read (Some xs) (Some ys) (Some zs) d n k s buf h g before now =
+    before
+    ∙ ap (λ (l : List ℕ). take d s ++ l) now
+    ∙ sym (append_assoc (take d s) (take n buf) zs)
+    ∙ ap (λ (l : List ℕ). l ++ zs) (sym (behind d n k s buf h g))
+
+within : (d n k : ℕ) (s buf : List ℕ) → d ≤ length s → n ≤ length buf → d + n ≤ length (put_mid d k s buf)
+within d n k s buf h g =
+    omega (arith, length-append (take d s) (buf ++ post_of d k s), length-append buf (post_of d k s), length-take-le d s h, g)
+
+pub loop-done-preserved : goal.loop-done-preserved
+loop-done-preserved g c = (
+  within c.loop-done.done c.in_ok-n.n _ c.loop-done.sheet c.read.new.buf c.loop-done.invariant.0 c.in_ok-n.ensures.bound.0,
+  more_read (g.R.Read.remaining c.args.input.now) (g.R.Read.remaining c.loop-done.input) (g.R.Read.remaining c.read.new.self) c.loop-done.done c.in_ok-n.n _ c.loop-done.sheet c.read.new.buf c.loop-done.invariant.0 c.in_ok-n.ensures.bound.0 c.loop-done.invariant.1 c.in_ok-n.ensures.bytes.0,
+)

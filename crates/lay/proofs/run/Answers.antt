@@ -32,4 +32,4 @@ module _ (a b : Option (List ℕ)) where
   all_written (Some bytes) (Ok done) sheet now read same written = subst (Appends a b) (ap lay_output (same ∙ read) ∙ front_suffices bytes) written
 
 pub returns : goal.returns
-returns g c = all_written _ _ (g.R.Read.remaining c.args.input) c.answer.result c.in_ok-sheet.sheet.items c.deref.result.now c.in_ok-sheet.ensures c.deref.ensures.value c.answer.ensures
+returns g c = all_written _ _ (g.R.Read.remaining c.args.input.now) c.answer.result _ _ c.in_ok-n.ensures.front refl c.answer.ensures
