@@ -7,9 +7,10 @@ ghost use Rattle.std.specs.Prelude.{◌≡◌, ◌<◌, ◌≤◌, length, take,
 ghost use Rattle.spirv.specs.Rows.{same_words};
 
 use decimal::Reading;
+use std::env::{Env, FillError};
 use std::io::{Read, Write};
 use std::rt::Files;
-use std::{env, fs, io};
+use std::{fs, io};
 use text::Answer;
 
 // The longest answers that are compared.
@@ -17,6 +18,10 @@ const MOST_ANSWERED: usize = 65_536;
 
 // The longest bundle that is read; of a longer one so many bytes are.
 const MOST_READ: usize = 262_144;
+
+const MOST_ARGUMENTS: usize = 4_096;
+
+const LONGEST_NAME: usize = 4_096;
 
 // How many sheets and answers agree, and how many lines differ.
 #[derive(Clone, Copy, Default)]
@@ -236,26 +241,36 @@ fn read_full(input: &mut impl Read, list: &mut [u8]) -> io::Result<usize>
     Ok(done)
 }
 
-// A file that can't be opened is named on standard error, and counts for nothing.
-fn replay_file<R: Files + Eprint>(rt: &R, out: &mut impl Write, name: &str) -> io::Result<Count> {
+// The bundle that an argument names, or none where there is no such argument. One that can't be opened is named on standard error, and counts for
+// nothing.
+fn replay_file<R: Env + Files + Eprint>(
+    rt: &R,
+    out: &mut impl Write,
+    i: usize,
+) -> io::Result<Option<Count>> {
+    let mut bytes = [0u8; LONGEST_NAME];
+    let n = match rt.arg(i, &mut bytes) {
+        Ok(n) => n,
+        Err(FillError::NotPresent) => return Ok(None),
+        Err(FillError::TooLong) => 0,
+    };
+    let Ok(name) = str::from_utf8(&bytes[..n]) else {
+        eprintln!(rt; "argument {i} is not UTF-8")?;
+        return Ok(Some(Count::default()));
+    };
     let mut file = match fs::open(rt, name) {
         Ok(file) => file,
         Err(e) => {
             eprintln!(rt; "{name}: {e}")?;
-            return Ok(Count::default());
+            return Ok(Some(Count::default()));
         }
     };
     let mut bundle = [0u8; MOST_READ];
     let n = read_full(&mut file, &mut bundle)?;
-    replay(out, &bundle[..n])
+    Ok(Some(replay(out, &bundle[..n])?))
 }
 
-fn main(rt: HostRuntime) -> io::Result<()> {
-    let mut out = io::writer(&rt);
-    let mut total = Count::default();
-    for name in env::args(&rt)?.skip(1) {
-        total = plus(total, replay_file(&rt, &mut out, name.as_str())?);
-    }
+fn say_total(out: &mut impl Write, total: Count) -> io::Result<()> {
     let Count {
         sheets,
         answers,
@@ -264,6 +279,18 @@ fn main(rt: HostRuntime) -> io::Result<()> {
     writeln!(
         out,
         "{sheets} sheets and {answers} answers agree, {differing} lines differ"
-    )?;
-    out.flush()
+    )
+}
+
+// With as many arguments as are looked at, or more, there is no total.
+fn main(rt: HostRuntime) -> io::Result<()> {
+    let mut out = io::writer(&rt);
+    let mut total = Count::default();
+    for i in 1..=MOST_ARGUMENTS {
+        let Some(count) = replay_file(&rt, &mut out, i)? else {
+            return say_total(&mut out, total);
+        };
+        total = plus(total, count);
+    }
+    Ok(())
 }

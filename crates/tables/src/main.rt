@@ -8,14 +8,19 @@ use asking::NextQuestion;
 use lines::Ask;
 use reading::SheetAnswer;
 use spirv::ChainOp;
+use std::env::{Env, FillError};
 use std::io::{Read, Write};
 use std::rt::Files;
-use std::{env, fs, io};
+use std::{fs, io};
 
 const FOLD: u64 = 4_294_967_296;
 
 // More than the longest sheet has, so that a longer one is seen to be too long.
 const MOST_READ: usize = 65_540;
+
+const MOST_ARGUMENTS: usize = 4_096;
+
+const LONGEST_NAME: usize = 4_096;
 
 // How many questions there are, and the fold of their words.
 #[derive(Clone, Copy)]
@@ -171,22 +176,38 @@ fn read_full(input: &mut impl Read, list: &mut [u8]) -> io::Result<usize>
     Ok(done)
 }
 
-// A file that can't be opened is named on standard error, and left out.
-fn show_file<R: Files + Eprint>(rt: &R, out: &mut impl Write, name: &str) -> io::Result<()> {
+// The sheet that an argument names; whether there is such an argument. One that can't be opened is named on standard error, and left out.
+fn show_file<R: Env + Files + Eprint>(rt: &R, out: &mut impl Write, i: usize) -> io::Result<bool> {
+    let mut bytes = [0u8; LONGEST_NAME];
+    let n = match rt.arg(i, &mut bytes) {
+        Ok(n) => n,
+        Err(FillError::NotPresent) => return Ok(false),
+        Err(FillError::TooLong) => 0,
+    };
+    let Ok(name) = str::from_utf8(&bytes[..n]) else {
+        eprintln!(rt; "argument {i} is not UTF-8")?;
+        return Ok(true);
+    };
     let mut file = match fs::open(rt, name) {
         Ok(file) => file,
-        Err(e) => return eprintln!(rt; "{name}: {e}"),
+        Err(e) => {
+            eprintln!(rt; "{name}: {e}")?;
+            return Ok(true);
+        }
     };
     let mut sheet = [0u8; MOST_READ];
     let n = read_full(&mut file, &mut sheet)?;
     write!(out, "{name}")?;
-    show(out, &sheet[..n])
+    show(out, &sheet[..n])?;
+    Ok(true)
 }
 
 fn main(rt: HostRuntime) -> io::Result<()> {
     let mut out = io::writer(&rt);
-    for name in env::args(&rt)?.skip(1) {
-        show_file(&rt, &mut out, name.as_str())?;
+    for i in 1..=MOST_ARGUMENTS {
+        if !show_file(&rt, &mut out, i)? {
+            return Ok(());
+        }
     }
-    out.flush()
+    Ok(())
 }
