@@ -1,6 +1,6 @@
 pub mod Options
 pub mod Refusals
 pub mod Numbers
-pub mod Checked
+pub mod InCode
 pub mod Statements
 pub mod Pairs
