@@ -9,8 +9,9 @@ use lib.Pow.{pow_pos, pow-add}
 use borrow.Author.Tests.{le-leb, lt-leb}
 use Rattle.arith.specs.Refusals.{Result, ok, refused, overflow}
 use Rattle.arith.specs.Numbers.{max_u32, fit, round_up, is_i32}
-use Rattle.arith.specs.InCode.{OrRefusal, in_code, err, as_i32}
+use Rattle.arith.specs.InCode.{OrRefusal, in_code, err, as_option, as_i32}
 use Rattle.std.specs.Prelude.{Option, Some, None, Ok, Err, SomeIff, ok_or}
+use Rattle.std.proofs.Math.Option as option
 
 pub fit_fits : {n : ℕ} → n ≤ max_u32 → Ok n ≡ in_code (fit n)
 unfolding fit
@@ -48,6 +49,14 @@ err_is (refused m) n h = ap refused (ap (number_in n) h)
     number_in : {A : Type 0} → ℕ → OrRefusal A → ℕ
     number_in n (Ok a) = n
     number_in n (Err e) = e.number
+
+pub some_of : {A : Type 0} (o : option.Option A) (a : A) → as_option o ≡ Some a → o ≡ option.some a
+some_of (option.some b) a h = cc
+some_of option.none a h = let z : ◌≡◌ {A = ℕ} 0 1 = cc in absurd (omega arith)
+
+pub none_of : {A : Type 0} (o : option.Option A) → as_option o ≡ None → o ≡ option.none
+none_of (option.some b) h = let z : ◌≡◌ {A = ℕ} 0 1 = cc in absurd (omega arith)
+none_of option.none h = refl
 
 pub record Narrow (z y : ℤ) : Type 0 where
   pub fits : is_i32 z ≡ true
