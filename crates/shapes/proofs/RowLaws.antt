@@ -11,31 +11,31 @@ use lib.Seq.{sets, sets-eq, take_at, drop_at, drop-drop}
 use borrow.Author.Tests.{ltb-true, ltb-false}
 use Rattle.arith.specs.Refusals.{misread}
 use Rattle.shapes.specs.Words.{encode}
+use Rattle.shapes.specs.declared.TypeLayout.{TypeLayout}
 use Rattle.shapes.specs.Rows.{row_at, answer_at, flat}
-use Rattle.shapes.specs.declared.Answer.{Answer}
-use Rattle.shapes.specs.declared.Answer.TheVariants.{Refused}
+use Rattle.arith.specs.InCode.{OrRefusal, err}
 use Rattle.spirv.proofs.Rows.{part_stored}
 use Rattle.shapes.proofs.ReadsBack.{encode_length, decode_encode}
 
 -- a row that is written is read
-pub row_written : (table : List ℕ) (i : ℕ) (a : Answer) → 10 * i + 10 ≤ length table → row_at (sets table (10 * i) (encode a)) i ≡ a
+pub row_written : (table : List ℕ) (i : ℕ) (a : OrRefusal TypeLayout) → 10 * i + 10 ≤ length table → row_at (sets table (10 * i) (encode a)) i ≡ a
 unfolding row_at
 row_written table i a h = rw (part_stored table (10 * i) 10 (encode a) (encode_length a) h) (decode_encode a)
 
 -- ---- a table of rows
 
-pub flat_length : (rs : List Answer) → length (flat rs) ≡ 10 * length rs
+pub flat_length : (rs : List (OrRefusal TypeLayout)) → length (flat rs) ≡ 10 * length rs
 unfolding flat
 flat_length [] = refl
 flat_length (a ∷ rs) = rw (length-append (encode a) (flat rs), encode_length a, flat_length rs) (omega arith)
 
-pub flat_snoc : (rs : List Answer) (a : Answer) → flat (rs ++ (a ∷ [])) ≡ flat rs ++ encode a
+pub flat_snoc : (rs : List (OrRefusal TypeLayout)) (a : OrRefusal TypeLayout) → flat (rs ++ (a ∷ [])) ≡ flat rs ++ encode a
 unfolding flat
 flat_snoc [] a = append-nil (encode a)
 flat_snoc (r ∷ rs) a = rw (flat_snoc rs a) (sym (append_assoc (encode r) (flat rs) (encode a)))
 
 -- the next row, behind those that are there
-pub next_row : (rs : List Answer) (table : List ℕ) (a : Answer) → 10 * length rs + 10 ≤ length table
+pub next_row : (rs : List (OrRefusal TypeLayout)) (table : List ℕ) (a : OrRefusal TypeLayout) → 10 * length rs + 10 ≤ length table
     → sets (flat rs ++ drop (10 * length rs) table) (10 * length rs) (encode a) ≡ flat (rs ++ (a ∷ [])) ++ drop (10 * (length rs + 1)) table
 next_row rs table a h =
     let n = 10 * length rs in
@@ -46,7 +46,7 @@ next_row rs table a h =
     sets-eq (encode a) whole n (omega arith)
     ∙ rw (e, take_at (flat rs) (drop n table) n (flat_length rs), ← drop-drop 10 n whole, drop_at (flat rs) (drop n table) n (flat_length rs), drop-drop 10 n table, flat_snoc rs a, m)
 
-row_of : (rs : List Answer) (rest : List ℕ) (i : ℕ) (d : Answer) → i < length rs → row_at (flat rs ++ rest) i ≡ get_or rs i d
+row_of : (rs : List (OrRefusal TypeLayout)) (rest : List ℕ) (i : ℕ) (d : OrRefusal TypeLayout) → i < length rs → row_at (flat rs ++ rest) i ≡ get_or rs i d
 unfolding row_at flat
 row_of [] rest i d h = absurd (omega arith)
 row_of (r ∷ rs) rest zero d h =
@@ -57,10 +57,10 @@ row_of (r ∷ rs) rest (suc i) d h =
     (row_of rs rest i d (omega arith))
 
 -- an answer among the first rows is one of their list
-pub answer_of_list : (rs : List Answer) (rest : List ℕ) (t : ℕ) → answer_at (flat rs ++ rest) (length rs) t ≡ get_or rs t (Refused misread)
+pub answer_of_list : (rs : List (OrRefusal TypeLayout)) (rest : List ℕ) (t : ℕ) → answer_at (flat rs ++ rest) (length rs) t ≡ get_or rs t (err misread)
 unfolding answer_at
 answer_of_list rs rest t = by_test (ltb t (length rs)) refl
   where
-    by_test : (b : Bool) → ltb t (length rs) ≡ b → cond b (row_at (flat rs ++ rest) t) (Refused misread) ≡ get_or rs t (Refused misread)
-    by_test true h = row_of rs rest t (Refused misread) (omega (arith, ltb-true t (length rs) h))
-    by_test false h = sym (get_or-eq_default rs (Refused misread) (omega (arith, ltb-false t (length rs) h)))
+    by_test : (b : Bool) → ltb t (length rs) ≡ b → cond b (row_at (flat rs ++ rest) t) (err misread) ≡ get_or rs t (err misread)
+    by_test true h = row_of rs rest t (err misread) (omega (arith, ltb-true t (length rs) h))
+    by_test false h = sym (get_or-eq_default rs (err misread) (omega (arith, ltb-false t (length rs) h)))

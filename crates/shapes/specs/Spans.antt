@@ -10,8 +10,8 @@ use Rattle.shapes.specs.declared.Handle.{Handle}
 use Rattle.shapes.specs.declared.Handle.TheVariants as handle
 use Rattle.shapes.specs.declared.TypeLayout.{TypeLayout}
 use Rattle.shapes.specs.declared.TypeLayout.TheVariants as layout
-use Rattle.shapes.specs.declared.Answer.{Answer}
-use Rattle.shapes.specs.declared.Answer.TheVariants.{Laid, Refused}
+use Rattle.arith.specs.InCode.{OrRefusal, err}
+use Rattle.std.specs.Prelude.{Ok, Err}
 
 -- what a span of fields stands for
 abbrev pub Reading : Type 0
@@ -44,12 +44,12 @@ layout_by f (layout.Handle h) = def.Handle (handle_by f h)
 layout_by f (layout.HandleArray h n) = def.HandleArray (handle_by f h) n
 layout_by f (layout.Concrete m) = def.Concrete (memory_by f m)
 
-abbrev pub answer_by : Reading → Answer → Result def.TypeLayout
-answer_by f (Laid l) = ok (layout_by f l)
-answer_by f (Refused n) = refused n
+abbrev pub answer_by : Reading → OrRefusal TypeLayout → Result def.TypeLayout
+answer_by f (Ok l) = ok (layout_by f l)
+answer_by f (Err e) = refused e.number
 
 -- of these lists
-abbrev pub answer_over : (offsets members : List ℕ) → Answer → Result def.TypeLayout
+abbrev pub answer_over : (offsets members : List ℕ) → OrRefusal TypeLayout → Result def.TypeLayout
 answer_over offsets members a = answer_by (spans_of offsets members) a
 
 -- ---- a layout of the definitions, held by spans
@@ -75,10 +75,10 @@ held_layout (def.Handle h) = layout.Handle (held_handle h)
 held_layout (def.HandleArray h n) = layout.HandleArray (held_handle h) n
 held_layout (def.Concrete m) = layout.Concrete (held_memory m)
 
-abbrev pub held : Result def.TypeLayout → Answer
-held (ok l) = Laid (held_layout l)
-held (refused n) = Refused n
+abbrev pub held : Result def.TypeLayout → OrRefusal TypeLayout
+held (ok l) = Ok (held_layout l)
+held (refused n) = err n
 
 -- an answer is what the definitions say, whatever spans stand for
-pub record Says (a : Answer) (said : Reading → Result def.TypeLayout) : Type 0 where
+pub record Says (a : OrRefusal TypeLayout) (said : Reading → Result def.TypeLayout) : Type 0 where
   pub by : (f : Reading) → answer_by f a ≡ said f

@@ -9,8 +9,8 @@ use Rattle.shapes.specs.declared.Handle.{Handle}
 use Rattle.shapes.specs.declared.Handle.TheVariants as handle
 use Rattle.shapes.specs.declared.TypeLayout.{TypeLayout}
 use Rattle.shapes.specs.declared.TypeLayout.TheVariants as layout
-use Rattle.shapes.specs.declared.Answer.{Answer}
-use Rattle.shapes.specs.declared.Answer.TheVariants.{Laid, Refused}
+use Rattle.arith.specs.InCode.{OrRefusal, err}
+use Rattle.std.specs.Prelude.{Ok, Err}
 
 -- ---- to words
 
@@ -37,11 +37,11 @@ handle_words tag number handle.Opaque = tag ∷ number ∷ 0 ∷ 0 ∷ 0 ∷ 0 �
 handle_words tag number (handle.Buffer m) = memory_words tag number m
 
 -- the number is a refusal's own, or a handle array's length
-unfoldable pub encode : Answer → List ℕ
-encode (Refused n) = 0 ∷ n ∷ 0 ∷ 0 ∷ 0 ∷ 0 ∷ 0 ∷ 0 ∷ 0 ∷ 0 ∷ []
-encode (Laid (layout.Handle h)) = handle_words 1 0 h
-encode (Laid (layout.HandleArray h n)) = handle_words 2 n h
-encode (Laid (layout.Concrete m)) = memory_words 3 0 m
+unfoldable pub encode : OrRefusal TypeLayout → List ℕ
+encode (Err e) = 0 ∷ e.number ∷ 0 ∷ 0 ∷ 0 ∷ 0 ∷ 0 ∷ 0 ∷ 0 ∷ 0 ∷ []
+encode (Ok (layout.Handle h)) = handle_words 1 0 h
+encode (Ok (layout.HandleArray h n)) = handle_words 2 n h
+encode (Ok (layout.Concrete m)) = memory_words 3 0 m
 
 -- ---- and back
 
@@ -61,18 +61,18 @@ abbrev pub handle_of : (kind : ℕ) → MemTypeLayout → Handle
 handle_of kind m = cond (eqb kind 0) handle.Opaque (handle.Buffer m)
 
 -- an answer whose words these are, if there is one
-unfoldable pub answer_of : List ℕ → Answer
+unfoldable pub answer_of : List ℕ → OrRefusal TypeLayout
 answer_of ws =
-    cond (eqb (get_or ws 0 0) 1) (Laid (layout.Handle (handle_of (get_or ws 2 0) (memory_of ws))))
-    (cond (eqb (get_or ws 0 0) 2) (Laid (layout.HandleArray (handle_of (get_or ws 2 0) (memory_of ws)) (get_or ws 1 0)))
-    (cond (eqb (get_or ws 0 0) 3) (Laid (layout.Concrete (memory_of ws)))
-    (Refused (get_or ws 1 0))))
+    cond (eqb (get_or ws 0 0) 1) (Ok (layout.Handle (handle_of (get_or ws 2 0) (memory_of ws))))
+    (cond (eqb (get_or ws 0 0) 2) (Ok (layout.HandleArray (handle_of (get_or ws 2 0) (memory_of ws)) (get_or ws 1 0)))
+    (cond (eqb (get_or ws 0 0) 3) (Ok (layout.Concrete (memory_of ws)))
+    (err (get_or ws 1 0))))
 
 -- the answer that words hold is the one whose words they are; words that are none's are refused with 1
-unfoldable pub decode : List ℕ → Answer
-decode ws = cond (same_words (encode (answer_of ws)) ws) (answer_of ws) (Refused misread)
+unfoldable pub decode : List ℕ → OrRefusal TypeLayout
+decode ws = cond (same_words (encode (answer_of ws)) ws) (answer_of ws) (err misread)
 
 -- each answer is read back from its words; a layout is read from no other words
 pub record ReadsBack : Type 0 where
-  pub back : (a : Answer) → decode (encode a) ≡ a
-  pub only : (ws : List ℕ) (l : TypeLayout) → decode ws ≡ Laid l → ws ≡ encode (Laid l)
+  pub back : (a : OrRefusal TypeLayout) → decode (encode a) ≡ a
+  pub only : (ws : List ℕ) (l : TypeLayout) → decode ws ≡ Ok l → ws ≡ encode (Ok l)

@@ -4,37 +4,35 @@ ghost use Rattle.shapes.specs.Settings.{setting_of};
 ghost use Rattle.shapes.specs.Words.{memory_words, handle_words, encode, components_of, memory_of, handle_of, answer_of, decode};
 
 use crate::{
-    Answer, Components, Handle, LayoutConfig, MaybeDynMemLayout, MemLayout, MemTypeLayout,
-    TypeLayout,
+    Components, Handle, LayoutConfig, MaybeDynMemLayout, MemLayout, MemTypeLayout, TypeLayout,
 };
+use arith::refusal::Refusal;
 
 // ---- to words
 
+#[tactic(auto, unfolding(crate::specs::Words::memory_words))]
 fn memory_words(tag: u32, number: u32, m: MemTypeLayout) -> [u32; 10]
     ensures { result ≡ memory_words tag number m }
 {
-    let mem = m.mem;
-    let base = mem.fixed_base;
-    let size = base.size;
-    let align = base.align;
-    let legacy = base.legacy_align;
-    let unit = mem.dyn_unit_stride;
-    let components = m.components;
-    match components {
-        Components::Scalar => [tag, number, 1, size, align, legacy, unit, 0, 0, 0],
+    let MemLayout {
+        align,
+        legacy_align,
+        size,
+    } = m.mem.fixed_base;
+    let unit = m.mem.dyn_unit_stride;
+    let (kind, a, b, c) = match m.components {
+        Components::Scalar => (1, 0, 0, 0),
         Components::Elements {
             stride,
             elem,
             fixed_len,
-        } => [
-            tag, number, 2, size, align, legacy, unit, stride, elem, fixed_len,
-        ],
-        Components::Fields { start, count } => {
-            [tag, number, 3, size, align, legacy, unit, start, count, 0]
-        }
-    }
+        } => (2, stride, elem, fixed_len),
+        Components::Fields { start, count } => (3, start, count, 0),
+    };
+    [tag, number, kind, size, align, legacy_align, unit, a, b, c]
 }
 
+#[tactic(auto, unfolding(crate::specs::Words::handle_words))]
 fn handle_words(tag: u32, number: u32, h: Handle) -> [u32; 10]
     ensures { result ≡ handle_words tag number h }
 {
@@ -44,22 +42,15 @@ fn handle_words(tag: u32, number: u32, h: Handle) -> [u32; 10]
     }
 }
 
-fn layout_words(l: TypeLayout) -> [u32; 10]
-    ensures { result ≡ encode (Answer.Laid l) }
-{
-    match l {
-        TypeLayout::Handle(h) => handle_words(1, 0, h),
-        TypeLayout::HandleArray(h, n) => handle_words(2, n, h),
-        TypeLayout::Concrete(m) => memory_words(3, 0, m),
-    }
-}
-
-pub fn words(a: Answer) -> [u32; 10]
+#[tactic(auto, unfolding(crate::specs::Words::encode))]
+pub fn words(a: Result<TypeLayout, Refusal>) -> [u32; 10]
     ensures { result ≡ encode a }
 {
     match a {
-        Answer::Refused(n) => [0, n, 0, 0, 0, 0, 0, 0, 0, 0],
-        Answer::Laid(l) => layout_words(l),
+        Err(e) => [0, e.number, 0, 0, 0, 0, 0, 0, 0, 0],
+        Ok(TypeLayout::Handle(h)) => handle_words(1, 0, h),
+        Ok(TypeLayout::HandleArray(h, n)) => handle_words(2, n, h),
+        Ok(TypeLayout::Concrete(m)) => memory_words(3, 0, m),
     }
 }
 
@@ -68,83 +59,80 @@ pub fn words(a: Answer) -> [u32; 10]
 fn components_of(kind: u32, a: u32, b: u32, c: u32) -> Components
     ensures { result ≡ components_of kind a b c }
 {
-    if kind == 2 {
-        return Components::Elements {
+    match kind {
+        2 => Components::Elements {
             stride: a,
             elem: b,
             fixed_len: c,
-        };
+        },
+        3 => Components::Fields { start: a, count: b },
+        _ => Components::Scalar,
     }
-    if kind == 3 {
-        return Components::Fields { start: a, count: b };
-    }
-    Components::Scalar
 }
 
 // Memory whose words are these, if there is any.
+#[tactic(auto, unfolding(crate::specs::Words::memory_of))]
 fn memory_of(ws: &[u32]) -> MemTypeLayout
     requires { length ws.now ≡ 10 }
     ensures { result ≡ memory_of ws.now }
 {
-    let components = components_of(ws[2], ws[7], ws[8], ws[9]);
-    let fixed_base = MemLayout {
-        align: ws[4],
-        legacy_align: ws[5],
-        size: ws[3],
-    };
-    let mem = MaybeDynMemLayout {
-        fixed_base,
-        dyn_unit_stride: ws[6],
-    };
-    MemTypeLayout { mem, components }
+    MemTypeLayout {
+        mem: MaybeDynMemLayout {
+            fixed_base: MemLayout {
+                align: ws[4],
+                legacy_align: ws[5],
+                size: ws[3],
+            },
+            dyn_unit_stride: ws[6],
+        },
+        components: components_of(ws[2], ws[7], ws[8], ws[9]),
+    }
 }
 
 fn handle_of(kind: u32, m: MemTypeLayout) -> Handle
     ensures { result ≡ handle_of kind m }
 {
-    if kind == 0 {
-        return Handle::Opaque;
+    match kind {
+        0 => Handle::Opaque,
+        _ => Handle::Buffer(m),
     }
-    Handle::Buffer(m)
 }
 
-// An answer whose words are these, if there is one.
-fn answer_of(ws: &[u32]) -> Answer
+// An answer whose words these are, if there is one.
+#[tactic(auto, unfolding(crate::specs::Words::answer_of))]
+fn answer_of(ws: &[u32]) -> Result<TypeLayout, Refusal>
     requires { length ws.now ≡ 10 }
     ensures { result ≡ answer_of ws.now }
 {
-    let tag = ws[0];
     let m = memory_of(ws);
-    if tag == 1 {
-        return Answer::Laid(TypeLayout::Handle(handle_of(ws[2], m)));
+    match ws[0] {
+        1 => Ok(TypeLayout::Handle(handle_of(ws[2], m))),
+        2 => Ok(TypeLayout::HandleArray(handle_of(ws[2], m), ws[1])),
+        3 => Ok(TypeLayout::Concrete(m)),
+        _ => Err(Refusal::from(ws[1])),
     }
-    if tag == 2 {
-        return Answer::Laid(TypeLayout::HandleArray(handle_of(ws[2], m), ws[1]));
-    }
-    if tag == 3 {
-        return Answer::Laid(TypeLayout::Concrete(m));
-    }
-    Answer::Refused(ws[1])
 }
 
 // The answer that words hold is the one whose words they are; words that are none's are refused with 1.
-pub fn answer(ws: &[u32]) -> Answer
+pub fn answer(ws: &[u32]) -> Result<TypeLayout, Refusal>
     ensures { result ≡ decode ws.now }
 {
     if ws.len() != 10 {
-        return Answer::Refused(1);
+        return Err(Refusal::MISREAD);
     }
     let a = answer_of(ws);
     let back = words(a);
     if spirv::same_words(&back, ws) {
-        return a;
+        a
+    } else {
+        Err(Refusal::MISREAD)
     }
-    Answer::Refused(1)
 }
 
 // ---- a setting
 
 // The setting that six words hold, as a sheet's table has them.
+#[tactic(auto, unfolding(crate::specs::Settings::setting_of))]
 pub fn setting_of(ws: &[u32]) -> LayoutConfig
     ensures { result ≡ setting_of ws.now }
 {

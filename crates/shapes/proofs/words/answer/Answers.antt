@@ -16,9 +16,9 @@ returns-then-same_words c =
     let e : same_words (encode (answer_of ws)) ws ≡ true = cc in
     rw e c.answer_of-a.ensures
 
-pub returns : goal.returns
+pub returns-else-same_words : goal.returns-else-same_words
 unfolding decode
-returns c =
+returns-else-same_words c =
     let ws = c.args.ws.now in
     let e : same_words (encode (answer_of ws)) ws ≡ false = cc in
     rw e

@@ -1,9 +1,0 @@
--- `shapes::handle_of` meets its contract: what the calls and tests on the way say picks the case of the definition. Assumes nothing.
-use borrow.Author.Tests.{eq-eqb, ne_eqb}
-use Rattle.shapes.proofs.words.handle_of.Goals as goal
-
-pub returns-then-kind-eq0 : goal.returns-then-kind-eq0
-returns-then-kind-eq0 c = rw (eq-eqb _ _ c.if-kind-eq0.true)
-
-pub returns : goal.returns
-returns c = rw (ne_eqb _ _ c.if-kind-eq0.false)
