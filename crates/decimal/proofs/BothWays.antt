@@ -11,22 +11,21 @@ use lib.IntN.{pos, negsuc}
 use lib.ListN.{length, length-append}
 use borrow.Author.Tests.{ltb-true, ltb-false, leb-true}
 use Rattle.arith.specs.Numbers.{max_u32, max_i32, is_i32}
+use Rattle.arith.specs.InCode.{as_option}
 use Rattle.arith.proofs.Results.{no_some, some_is}
+use Rattle.arith.proofs.Fitting.{some_of}
 use Rattle.text.proofs.Laws.{in_place}
 use Rattle.decimal.specs.Decimal.{digit_0, dash, read_number, decimal, signed_decimal}
-use Rattle.decimal.specs.Reading.{reading}
 use Rattle.decimal.specs.RoundTrip.{PrintedReads, ReadIsPrinted, UnsignedApart, SignedApart, TenDigits}
 use Rattle.decimal.proofs.ReadsBack.{reads_back}
 use Rattle.decimal.proofs.OneForm.{one_form}
-use Rattle.decimal.proofs.OneByOne.{value_is}
 use Rattle.decimal.proofs.LastDigit.{one_digit, more_digits}
 
 pub printed_reads : PrintedReads
-unfolding reading
-printed_reads n h old new at end small room p = ap reading (ap read_number (in_place (decimal n) p room small) ∙ reads_back n h)
+printed_reads n h old new at end small room p = ap as_option (ap read_number (in_place (decimal n) p room small) ∙ reads_back n h)
 
 pub read_is_printed : ReadIsPrinted
-read_is_printed f n h = (one_form f n (value_is (read_number f) n h)).printed
+read_is_printed f n h = (one_form f n (some_of (read_number f) n h)).printed
 
 pub unsigned_apart : UnsignedApart
 unsigned_apart m n h k e = some_is (sym (reads_back m h) ∙ ap read_number e ∙ reads_back n k)

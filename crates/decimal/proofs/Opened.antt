@@ -6,5 +6,5 @@ use Rattle.decimal.specs.Reading as reading
 use Rattle.decimal.specs.Text as text
 
 unfoldable pub opened : Unit {0}
-unfolding of-arith.opened of-text.opened decimal.read_number decimal.decimal decimal.signed_decimal reading.reading reading.with_digit text.split
+unfolding of-arith.opened of-text.opened decimal.read_number decimal.decimal decimal.signed_decimal reading.with_digit text.split
 opened = tt

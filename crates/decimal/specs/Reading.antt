@@ -1,13 +1,8 @@
--- A number that was read, as the code gives it, and one digit more.
+-- A number that was read, and one digit more.
 use Rattle.std.specs.Prelude.{ℕ, ◌+◌, ◌-◌, ◌*◌, cond, ◌&&◌, leb}
 use Rattle.std.proofs.Math.Option.{Option, none, some}
 use Rattle.arith.specs.Numbers.{max_u32}
 use Rattle.decimal.specs.Decimal.{digit_0, digit_9}
-use Rattle.decimal.specs.declared.Reading.{Reading}
-
-unfoldable pub reading : Option ℕ → Reading
-reading (some n) = Reading.Value n
-reading none = Reading.Misread
 
 -- v with the digit b behind it, where that fits 32 bits
 unfoldable pub with_digit : ℕ → ℕ → Option ℕ

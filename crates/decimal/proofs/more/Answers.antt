@@ -1,21 +1,18 @@
--- `decimal::more` meets its contract: the three tests are those of a digit that fits. Assumes nothing.
-use mathlib.Core.Path.{sym, ap}
-use Rattle.decimal.specs.Reading.{reading}
-use Rattle.decimal.proofs.OneByOne.{digit_low, digit_high, digit_fits, digit_over}
+-- `decimal::more` meets its contract. Assumes nothing.
+use Rattle.std.proofs.Common.{arith}
+use Rattle.std.proofs.lemmas.Grind.{common_steps}
+use Rattle.std.proofs.lemmas.Bool.Decides.{nat_tests}
+use Rattle.decimal.specs.Reading.{with_digit}
 use Rattle.decimal.proofs.more.Goals as goal
 
-pub returns-then-b-lt48 : goal.returns-then-b-lt48
-unfolding reading
-returns-then-b-lt48 c = sym (ap reading (digit_low _ _ c.if-b-lt48.true))
+pub returns-then-not-is_ascii_digit : goal.returns-then-not-is_ascii_digit
+unfolding with_digit
+returns-then-not-is_ascii_digit c = grind (arith, common_steps, nat_tests)
 
-pub returns-then-b-gt57 : goal.returns-then-b-gt57
-unfolding reading
-returns-then-b-gt57 c = sym (ap reading (digit_high _ _ c.if-b-lt48.false c.if-b-gt57.true))
+pub returns-in_err-checked_mul : goal.returns-in_err-checked_mul
+unfolding with_digit
+returns-in_err-checked_mul c = grind (arith, common_steps, nat_tests)
 
-pub returns-then-w-le4294967295 : goal.returns-then-w-le4294967295
-unfolding reading
-returns-then-w-le4294967295 c = sym (ap reading (digit_fits _ _ c.if-b-lt48.false c.if-b-gt57.false c.if-w-le4294967295.true))
-
-pub returns-else-w-le4294967295 : goal.returns-else-w-le4294967295
-unfolding reading
-returns-else-w-le4294967295 c = sym (ap reading (digit_over _ _ c.if-b-lt48.false c.if-b-gt57.false c.if-w-le4294967295.false))
+pub returns : goal.returns
+unfolding with_digit
+returns c = grind (arith, common_steps, nat_tests)

@@ -1,28 +1,20 @@
--- `decimal::read_number` meets its contract. The loop's invariant: the digits that are left, behind the number so far, read as the whole. Assumes nothing.
-use mathlib.Core.Path.{sym, ap, ◌∙◌}
-use borrow.Author.Rules.{rules}
-use Rattle.decimal.specs.Reading.{reading}
+-- `decimal::read_number` meets its contract. Assumes nothing.
+use Rattle.std.proofs.Common.{sym, ap, ◌∙◌}
+use Rattle.arith.specs.InCode.{as_option}
 use Rattle.decimal.proofs.OneByOne.{unbegun, begun, turn, stop, done}
 use Rattle.decimal.proofs.read_number.Goals as goal
 
 pub returns-then-not-well_begun : goal.returns-then-not-well_begun
-unfolding reading
-returns-then-not-well_begun c =
-    sym (ap reading (unbegun _ (sym c.well_begun.ensures ∙ c.if-not-well_begun.true)))
+returns-then-not-well_begun c = sym (ap as_option (unbegun _ (sym c.well_begun.ensures ∙ c.if-not-well_begun.true)))
 
-pub loop-i-init : goal.loop-i-init
-loop-i-init c =
-    (search rules, begun _ (sym c.well_begun.ensures ∙ c.if-not-well_begun.false))
+pub loop-b-init : goal.loop-b-init
+loop-b-init c = begun _ (sym c.well_begun.ensures ∙ c.if-not-well_begun.false)
 
-pub returns-in_default : goal.returns-in_default
-returns-in_default c =
-    let l = c in
-    stop _ _ _ l.loop-i.invariant.1 l.loop-i-test.true c.more.ensures c.in_default.is
+pub returns-in_err-v : goal.returns-in_err-v
+returns-in_err-v c = c.from_residual.ensures ∙ stop _ _ _ c.loop-b.invariant c.loop-b-test.true c.in_err-v.ensures
 
-pub loop-i-preserved : goal.loop-i-preserved
-loop-i-preserved c =
-    let l = c in
-    (search rules, turn _ _ _ l.loop-i.invariant.1 l.loop-i-test.true c.more.ensures c.in-Value.is)
+pub loop-b-preserved : goal.loop-b-preserved
+loop-b-preserved c = turn _ _ _ c.loop-b.invariant c.loop-b-test.true c.in_ok-v.ensures
 
 pub returns : goal.returns
-returns c = done _ _ _ c.loop-i.invariant.1 c.loop-i-test.false
+returns c = done _ _ _ c.loop-b.invariant c.loop-b-test.false
