@@ -6,8 +6,6 @@ ghost use Rattle.text.specs.Printed.{Printed};
 ghost use Rattle.decimal.specs.Decimal.{decimal, signed_decimal, read_number};
 ghost use Rattle.digits.specs.Code.{code_of};
 
-use decimal::Reading;
-
 // The digits of n at the start of a list; how many there are.
 #[unsafe(no_mangle)]
 pub extern "C" fn digits_print_unsigned(out: &mut [u8], n: u32) -> usize
@@ -29,8 +27,5 @@ pub extern "C" fn digits_print_signed(out: &mut [u8], n: i32) -> usize
 pub extern "C" fn digits_read(f: &[u8]) -> u64
     ensures { result ≡ code_of (read_number f.now) }
 {
-    match decimal::read_number(f) {
-        Reading::Value(n) => n as u64,
-        Reading::Misread => 0x1_0000_0000,
-    }
+    decimal::read_number(f).map_or(0x1_0000_0000, u64::from)
 }

@@ -1,14 +1,16 @@
--- `digits_read` meets its contract: what was read picks the case. Assumes nothing.
-use Rattle.std.proofs.Common.{sym, refl}
-use Rattle.decimal.specs.Decimal.{read_number}
-use Rattle.decimal.proofs.OneByOne.{value_is, misread_is}
+-- `digits_read` meets its contract. Assumes nothing.
+use Rattle.std.proofs.Common.{◌≡◌, ℕ, ◌⊎◌, inl, inr, refl, arith}
+use Rattle.std.specs.Prelude.{Some, None}
+use Rattle.std.proofs.Math.Option.{Option, some, none}
+use Rattle.std.proofs.lemmas.Grind.{common_steps}
+use Rattle.arith.specs.InCode.{as_option}
 use Rattle.digits.specs.Code.{code_of}
 use Rattle.digits.proofs.digits_read.Goals as goal
 
-pub returns-in-Value : goal.returns-in-Value
+cases : (o : Option ℕ) → ((as_option o ≡ None) × (code_of o ≡ 4294967296)) ⊎ ((n : ℕ) × (as_option o ≡ Some n) × (code_of o ≡ n))
 unfolding code_of
-returns-in-Value c = rw (value_is (read_number c.args.f.now) c.in-Value.n (sym c.in-Value.ensures)) refl
+cases none = inl (refl, refl)
+cases (some n) = inr (n, refl, refl)
 
-pub returns-in-Misread : goal.returns-in-Misread
-unfolding code_of
-returns-in-Misread c = rw (misread_is (read_number c.args.f.now) (sym c.in-Misread.ensures)) refl
+pub returns : goal.returns
+returns c = grind (arith, common_steps, cases)
