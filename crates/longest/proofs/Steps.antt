@@ -7,6 +7,7 @@ use mathlib.Core.List.{List, [], ◌∷◌, ◌++◌}
 use mathlib.Core.Option.{Option, none, some}
 use lib.Dec.{leb}
 use lib.IntN.{ℤ}
+use Rattle.std.specs.Prelude.{None, Some}
 use Rattle.arith.specs.Refusals.{ok}
 use Rattle.arith.specs.Numbers.{max_i32}
 use Rattle.spirv.specs.declared.ChainOp.{ChainOp}
@@ -19,9 +20,7 @@ use Rattle.layout.specs.Layouts.{answer_in}
 use Rattle.layout.specs.Statements.{IsLayoutIn}
 use Rattle.lower.specs.declared.QPtrOp.{QPtrOp}
 use Rattle.lower.specs.declared.QPtrOp.TheVariants.{HandleArrayIndex, BufferData, Offset, DynOffset}
-use Rattle.lower.specs.declared.Pending.{Pending}
-use Rattle.lower.specs.declared.Pending.TheVariants.{Empty, Waiting}
-use Rattle.lower.specs.Steps.{flush, Move, bound_of, lower_from}
+use Rattle.lower.specs.Steps.{Pending, flush, Move, bound_of, lower_from}
 use Rattle.lower.specs.Statements.{Accepted}
 use Rattle.lower.proofs.Moves.{ByConstant, ToPart, Moved, first_of, none_left, begun}
 use Rattle.lower.proofs.Onward.{onward, start_in}
@@ -40,8 +39,8 @@ append [] ts a b = b
 append (s ∷ ss) ts a b = (a.0, append ss ts a.1 b)
 
 flushed : (p : Pending) (ss : List QPtrOp) → All Numbers ss → All Numbers (flush p ss)
-flushed Empty ss a = a
-flushed (Waiting z) ss a = (tt, a)
+flushed None ss a = a
+flushed (Some z) ss a = (tt, a)
 
 bound_fits : (len : ℕ) → Fits len → Fits (bound_of len)
 unfolding bound_of
@@ -64,7 +63,7 @@ module _ (answer-of : ℕ → Answer) (i : Index) (f : FitsIndex i) where
   moved : (l : TypeLayout) → FitsLayout l → (p : Pending) (a : Move) → Moved answer-of l i p a → All Numbers a.steps
   moved (Handle Opaque) g p a h = absurd h
   moved (Handle (Buffer m)) g p a h =
-      subst (All Numbers) (sym h.steps) (flushed p (BufferData ∷ h.inner.steps) (tt, into_part m.components g.parts Empty h.inner h.by))
+      subst (All Numbers) (sym h.steps) (flushed p (BufferData ∷ h.inner.steps) (tt, into_part m.components g.parts None h.inner h.by))
   moved (HandleArray k n) g p a h = subst (All Numbers) (sym h.0) (flushed p (HandleArrayIndex i ∷ []) (f, tt))
   moved (Concrete m) g p a h = into_part m.components g.parts p a h
 
@@ -80,4 +79,4 @@ from s good (i ∷ is) f l o p steps h =
 pub steps_numbers : (s : Sheet) → GoodSheet s → (op : ChainOp) (ptr : ℕ) (is : List Index) → All FitsIndex is → (steps : List QPtrOp) → Accepted s op ptr is steps → All Numbers steps
 steps_numbers s good op ptr is f steps h =
     let b = begun s op ptr is steps h in
-    from s good is f b.layout (start_in s op b.pointee b.layout b.laid) Empty steps b.lowered
+    from s good is f b.layout (start_in s op b.pointee b.layout b.laid) None steps b.lowered

@@ -1,6 +1,5 @@
 pub mod Examples
 pub mod Fields
-pub mod InCode
 pub mod Moves
 pub mod Neighbours
 pub mod Onward

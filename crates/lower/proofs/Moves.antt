@@ -7,6 +7,7 @@ use mathlib.Core.Option.{Option, none, some}
 use lib.Dec.{leb}
 use lib.IntN.{ℤ, pos, negsuc, ◌*ℤ◌}
 use lib.ListN.{get_elem?}
+use Rattle.std.specs.Prelude.{None}
 use Rattle.arith.specs.Refusals.{ok}
 use Rattle.arith.specs.Numbers.{max_i32, signed, is_i32}
 use Rattle.arith.proofs.Results.{never, value_is, went, passed, not_refused, no_some, second_true, let_through}
@@ -19,9 +20,7 @@ use Rattle.layout.specs.Arrays.{Answer}
 use Rattle.layout.specs.Layouts.{answer_in}
 use Rattle.lower.specs.declared.QPtrOp.{QPtrOp}
 use Rattle.lower.specs.declared.QPtrOp.TheVariants.{HandleArrayIndex, BufferData, DynOffset}
-use Rattle.lower.specs.declared.Pending.{Pending}
-use Rattle.lower.specs.declared.Pending.TheVariants.{Empty}
-use Rattle.lower.specs.Steps.{flush, merged, Field, field_at, field_of, Move, to_field, bound_of, in_bound, constant_offset, by_constant, to_element, to_part, move, lower_from}
+use Rattle.lower.specs.Steps.{Pending, flush, merged, Field, field_at, field_of, Move, to_field, bound_of, in_bound, constant_offset, by_constant, to_element, to_part, move, lower_from}
 use Rattle.lower.specs.Chain.{start_layout, chain_by}
 use Rattle.lower.specs.Statements.{Accepted}
 
@@ -106,7 +105,7 @@ module _ (answer-of : ℕ → Answer) where
 
   -- the index's offset was added, or it stays D
   abbrev pub ByConstant : (stride bound : ℕ) (i : Index) (p : Pending) (a : Move) → Option ℤ → Type 0
-  ByConstant stride bound i p a none = (a.steps ≡ flush p (DynOffset stride bound i ∷ [])) × (a.pending ≡ Empty)
+  ByConstant stride bound i p a none = (a.steps ≡ flush p (DynOffset stride bound i ∷ [])) × (a.pending ≡ None)
   ByConstant stride bound i p a (some z) = Constant stride i z × (merged p z ≡ ok a.pending) × (a.steps ≡ [])
 
   pub record ToElement (stride elem len : ℕ) (i : Index) (p : Pending) (a : Move) : Type 0 where
@@ -142,7 +141,7 @@ module _ (answer-of : ℕ → Answer) where
   -- into a buffer: B, then as into its memory with nothing waiting
   pub record ToBuffer (c : Components) (i : Index) (p : Pending) (a : Move) : Type 0 where
     pub inner : Move
-    pub by : ToPart c i Empty inner
+    pub by : ToPart c i None inner
     pub steps : a.steps ≡ flush p (BufferData ∷ inner.steps)
     pub pending : a.pending ≡ inner.pending
     pub layout : a.layout ≡ inner.layout
@@ -150,7 +149,7 @@ module _ (answer-of : ℕ → Answer) where
   abbrev pub Moved : TypeLayout → Index → Pending → Move → Type 0
   Moved (Handle Opaque) i p a = ⊥
   Moved (Handle (Buffer m)) i p a = ToBuffer m.components i p a
-  Moved (HandleArray h n) i p a = (a.steps ≡ flush p (HandleArrayIndex i ∷ [])) × (a.pending ≡ Empty) × (a.layout ≡ Handle h)
+  Moved (HandleArray h n) i p a = (a.steps ≡ flush p (HandleArrayIndex i ∷ [])) × (a.pending ≡ None) × (a.layout ≡ Handle h)
   Moved (Concrete m) i p a = ToPart m.components i p a
 
   pub moved_by : (l : TypeLayout) (i : Index) (p : Pending) (a : Move) → move answer-of l i p ≡ ok a → Moved l i p a
@@ -158,7 +157,7 @@ module _ (answer-of : ℕ → Answer) where
   moved_by (Handle Opaque) i p a h = absurd (never h)
   moved_by (Handle (Buffer m)) i p a h =
       let b = went _ _ h in
-      subst (ToBuffer m.components i p) (value_is b.rest) record { inner = b.value; by = to_part_lem m.components i Empty b.value b.here; steps = refl; pending = refl; layout = refl }
+      subst (ToBuffer m.components i p) (value_is b.rest) record { inner = b.value; by = to_part_lem m.components i None b.value b.here; steps = refl; pending = refl; layout = refl }
   moved_by (HandleArray h n) i p a g = subst (Moved (HandleArray h n) i p) (value_is g) (refl, refl, refl)
   moved_by (Concrete m) i p a h = to_part_lem m.components i p a h
 
@@ -191,7 +190,7 @@ pub record Begun (s : Sheet) (op : ChainOp) (ptr : ℕ) (is : List Index) (steps
   pub points : pointee_in s ptr ≡ ok pointee
   pub layout : TypeLayout
   pub laid : start_layout s.setting (answer_in s) op pointee ≡ ok layout
-  pub lowered : lower_from (answer_in s) layout Empty is ≡ ok steps
+  pub lowered : lower_from (answer_in s) layout None is ≡ ok steps
 
 pub begun : (s : Sheet) (op : ChainOp) (ptr : ℕ) (is : List Index) (steps : List QPtrOp) → Accepted s op ptr is steps → Begun s op ptr is steps
 unfolding chain_by

@@ -5,6 +5,7 @@ use mathlib.Core.Bool.{false}
 use mathlib.Core.List.{List, [], ◌∷◌, ◌++◌}
 use mathlib.Core.Option.{Option, none, some}
 use lib.IntN.{ℤ}
+use Rattle.std.specs.Prelude.{None, Some}
 use Rattle.arith.specs.Refusals.{ok}
 use Rattle.spirv.specs.declared.Index.{Index}
 use Rattle.shapes.specs.Shapes.{Components, Scalar, Elements, Fields, Opaque, Buffer, TypeLayout, Handle, HandleArray, Concrete}
@@ -12,9 +13,7 @@ use Rattle.layout.specs.Arrays.{Answer}
 use Rattle.layout.specs.Layouts.{answer_in}
 use Rattle.lower.specs.declared.QPtrOp.{QPtrOp}
 use Rattle.lower.specs.declared.QPtrOp.TheVariants.{HandleArrayIndex, BufferData, DynOffset}
-use Rattle.lower.specs.declared.Pending.{Pending}
-use Rattle.lower.specs.declared.Pending.TheVariants.{Empty, Waiting}
-use Rattle.lower.specs.Steps.{flush, bound_of, Move, lower_from}
+use Rattle.lower.specs.Steps.{Pending, flush, bound_of, Move, lower_from}
 use Rattle.lower.specs.Statements.{is_offset, neighbours, NoNeighbours}
 use Rattle.lower.proofs.Moves.{ByConstant, ToPart, Moved, first_of, none_left, begun}
 
@@ -32,8 +31,8 @@ plain_first x (y ∷ ys) e h = rw e h
 
 -- and an offset in front of that
 flush_solid : (p : Pending) (x : QPtrOp) (ss : List QPtrOp) → is_offset x ≡ false → Solid ss → Solid (flush p (x ∷ ss))
-flush_solid Empty x ss e f rest h = plain_first x (ss ++ rest) e (f rest h)
-flush_solid (Waiting z) x ss e f rest h = rw e (plain_first x (ss ++ rest) e (f rest h))
+flush_solid None x ss e f rest h = plain_first x (ss ++ rest) e (f rest h)
+flush_solid (Some z) x ss e f rest h = rw e (plain_first x (ss ++ rest) e (f rest h))
 
 module _ (answer-of : ℕ → Answer) where
   element_solid : (stride bound : ℕ) (i : Index) (p : Pending) (a : Move) (c : Option ℤ) → ByConstant answer-of stride bound i p a c → Solid a.steps
@@ -47,7 +46,7 @@ module _ (answer-of : ℕ → Answer) where
 
   move_solid : (l : TypeLayout) (i : Index) (p : Pending) (a : Move) → Moved answer-of l i p a → Solid a.steps
   move_solid (Handle Opaque) i p a h = absurd h
-  move_solid (Handle (Buffer m)) i p a h = subst Solid (sym h.steps) (flush_solid p BufferData h.inner.steps refl (part_solid m.components i Empty h.inner h.by))
+  move_solid (Handle (Buffer m)) i p a h = subst Solid (sym h.steps) (flush_solid p BufferData h.inner.steps refl (part_solid m.components i None h.inner h.by))
   move_solid (HandleArray k n) i p a h = subst Solid (sym h.0) (flush_solid p (HandleArrayIndex i) [] refl (none_solid [] refl))
   move_solid (Concrete m) i p a h = part_solid m.components i p a h
 
@@ -55,12 +54,12 @@ module _ (answer-of : ℕ → Answer) where
   apart [] l p steps h = subst (λ (ss : List QPtrOp). neighbours ss ≡ false) (sym (none_left answer-of l p steps h)) (flushed p)
     where
       flushed : (p : Pending) → neighbours (flush p []) ≡ false
-      flushed Empty = refl
-      flushed (Waiting z) = refl
+      flushed None = refl
+      flushed (Some z) = refl
   apart (i ∷ is) l p steps h =
       let f = first_of answer-of l p i is steps h in
       subst (λ (ss : List QPtrOp). neighbours ss ≡ false) (sym f.joined)
       (move_solid l i p f.to f.by f.rest (apart is f.to.layout f.to.pending f.rest f.onward))
 
 pub no_neighbours : NoNeighbours
-no_neighbours s op ptr is steps h = let b = begun s op ptr is steps h in apart (answer_in s) is b.layout Empty steps b.lowered
+no_neighbours s op ptr is steps h = let b = begun s op ptr is steps h in apart (answer_in s) is b.layout None steps b.lowered

@@ -2,6 +2,7 @@
 use Prim.Native.Nat.{ℕ}
 use mathlib.Core.Path.{◌≡◌, refl, sym, ◌∙◌, subst}
 use mathlib.Core.Logic.{inl, inr}
+use Rattle.std.specs.Prelude.{None}
 use Rattle.arith.specs.Refusals.{ok}
 use Rattle.arith.proofs.Results.{value_is}
 use Rattle.spirv.specs.declared.ChainOp.{ChainOp}
@@ -12,9 +13,7 @@ use Rattle.sheet.specs.Sheet.{Sheet}
 use Rattle.layout.specs.Layouts.{answer_in}
 use Rattle.layout.specs.Statements.{IsLayoutIn, PartsOf}
 use Rattle.layout.proofs.Parts.{parts, handles}
-use Rattle.lower.specs.declared.Pending.{Pending}
-use Rattle.lower.specs.declared.Pending.TheVariants.{Empty}
-use Rattle.lower.specs.Steps.{Move}
+use Rattle.lower.specs.Steps.{Pending, Move}
 use Rattle.lower.specs.Chain.{start_layout}
 use Rattle.lower.proofs.Moves.{ToPart, Moved}
 
@@ -35,7 +34,7 @@ part_onward s m (Fields os ts) q i p a h =
 pub onward : (s : Sheet) (l : TypeLayout) → IsLayoutIn s l → (i : Index) (p : Pending) (a : Move) → Moved (answer_in s) l i p a → IsLayoutIn s a.layout
 onward s (Handle Opaque) o i p a h = absurd h
 onward s (Handle (Buffer m)) o i p a h =
-    let e = part_onward s m m.components (parts s (Handle (Buffer m)) m o refl) i Empty h.inner h.by in
+    let e = part_onward s m m.components (parts s (Handle (Buffer m)) m o refl) i None h.inner h.by in
     subst (IsLayoutIn s) (sym h.layout) (e.type, inl e.laid)
 onward s (HandleArray k n) o i p a h = let (elem, e) = handles s k n o in subst (IsLayoutIn s) (sym h.2) (elem, inl e)
 onward s (Concrete m) o i p a h = let e = part_onward s m m.components (parts s (Concrete m) m o refl) i p a h in (e.type, inl e.laid)

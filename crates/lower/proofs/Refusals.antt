@@ -6,6 +6,7 @@ use mathlib.Core.List.{List, [], ◌∷◌}
 use mathlib.Core.Option.{Option, none, some}
 use native.Mathlib.Omega.{arith}
 use lib.IntN.{ℤ, pos, negsuc}
+use Rattle.std.specs.Prelude.{None, Some}
 use Rattle.arith.specs.Refusals.{Result, ok, no_parts, step_overflow}
 use Rattle.arith.specs.Numbers.{signed, is_zero}
 use Rattle.arith.proofs.Results.{never, not_both, RefusedBy, fine_by, this_by, then_by, and_by, unless_by}
@@ -17,9 +18,7 @@ use Rattle.layout.specs.Layouts.{answer_in}
 use Rattle.layout.specs.Statements.{IsLayoutIn, PartsOf}
 use Rattle.layout.proofs.Parts.{parts}
 use Rattle.lower.specs.declared.QPtrOp.{QPtrOp}
-use Rattle.lower.specs.declared.Pending.{Pending}
-use Rattle.lower.specs.declared.Pending.TheVariants.{Empty, Waiting}
-use Rattle.lower.specs.Steps.{added, merged, Field, field_at, field_of, to_field, constant_offset, by_constant, to_element, to_part, move, lower_from}
+use Rattle.lower.specs.Steps.{Pending, added, merged, Field, field_at, field_of, to_field, constant_offset, by_constant, to_element, to_part, move, lower_from}
 use Rattle.lower.proofs.Moves.{field_is, moved_by}
 use Rattle.lower.proofs.Onward.{onward}
 
@@ -37,8 +36,8 @@ unfolding merged added
 merged_only p z = by_test (is_zero z)
   where
     by_pending : (p : Pending) → Only (added p z)
-    by_pending Empty = fine_by
-    by_pending (Waiting y) = and_by _ _ (unless_by _ _ (omega arith)) fine_by
+    by_pending None = fine_by
+    by_pending (Some y) = and_by _ _ (unless_by _ _ (omega arith)) fine_by
 
     by_test : (t : Bool) → Only (cond t (ok p) (added p z))
     by_test true = fine_by
@@ -78,7 +77,7 @@ module _ (s : Sheet) where
   move_only : (l : TypeLayout) → IsLayoutIn s l → (i : Index) (p : Pending) → Only (move (answer_in s) l i p)
   unfolding move
   move_only (Handle Opaque) o i p = this_by (omega arith)
-  move_only (Handle (Buffer m)) o i p = then_by _ _ (part_only m m.components (parts s (Handle (Buffer m)) m o refl) i Empty) λ a h. fine_by
+  move_only (Handle (Buffer m)) o i p = then_by _ _ (part_only m m.components (parts s (Handle (Buffer m)) m o refl) i None) λ a h. fine_by
   move_only (HandleArray k n) o i p = fine_by
   move_only (Concrete m) o i p = part_only m m.components (parts s (Concrete m) m o refl) i p
 

@@ -7,6 +7,7 @@ use mathlib.Core.Option.{Option, none, some}
 use native.Mathlib.Omega.{arith}
 use lib.IntN.{ℤ, pos}
 use lib.ListN.{length, length-append}
+use Rattle.std.specs.Prelude.{None, Some}
 use Rattle.arith.specs.Refusals.{ok}
 use Rattle.arith.specs.Numbers.{is_i32, is_zero}
 use Rattle.arith.proofs.Results.{value_is, passed, not_refused}
@@ -19,9 +20,7 @@ use Rattle.layout.specs.Statements.{IsLayoutIn}
 use Rattle.layout.proofs.Parts.{parts}
 use Rattle.lower.specs.declared.QPtrOp.{QPtrOp}
 use Rattle.lower.specs.declared.QPtrOp.TheVariants.{HandleArrayIndex, BufferData, DynOffset}
-use Rattle.lower.specs.declared.Pending.{Pending}
-use Rattle.lower.specs.declared.Pending.TheVariants.{Empty, Waiting}
-use Rattle.lower.specs.Steps.{flush, added, merged, Move, bound_of, lower_from}
+use Rattle.lower.specs.Steps.{Pending, flush, added, merged, Move, bound_of, lower_from}
 use Rattle.lower.specs.Statements.{FitsStep, FitSteps, StepsFit}
 use Rattle.lower.proofs.Moves.{ByConstant, ToPart, Moved, first_of, none_left, begun}
 use Rattle.lower.proofs.Onward.{part_onward, onward, start_in}
@@ -29,21 +28,21 @@ use Rattle.lower.proofs.Onward.{part_onward, onward, start_in}
 -- ---- the bytes
 
 abbrev FitPending : Pending → Type 0
-FitPending Empty = Unit {0}
-FitPending (Waiting z) = is_i32 z ≡ true
+FitPending None = Unit {0}
+FitPending (Some z) = is_i32 z ≡ true
 
 fit_append : (ss ts : List QPtrOp) → FitSteps ss → FitSteps ts → FitSteps (ss ++ ts)
 fit_append [] ts a b = b
 fit_append (s ∷ ss) ts a b = (a.0, fit_append ss ts a.1 b)
 
 fit_flush : (p : Pending) (ss : List QPtrOp) → FitPending p → FitSteps ss → FitSteps (flush p ss)
-fit_flush Empty ss a b = b
-fit_flush (Waiting z) ss a b = (a, b)
+fit_flush None ss a b = b
+fit_flush (Some z) ss a b = (a, b)
 
 fit_added : (p : Pending) (z : ℤ) (q : Pending) → is_i32 z ≡ true → added p z ≡ ok q → FitPending q
 unfolding added
-fit_added Empty z q f h = subst FitPending (value_is h) f
-fit_added (Waiting y) z q f h = subst FitPending (value_is (passed _ _ h)) (not_refused _ _ _ h)
+fit_added None z q f h = subst FitPending (value_is h) f
+fit_added (Some y) z q f h = subst FitPending (value_is (passed _ _ h)) (not_refused _ _ _ h)
 
 fit_merged : (p : Pending) (z : ℤ) (q : Pending) → FitPending p → is_i32 z ≡ true → merged p z ≡ ok q → FitPending q
 unfolding merged
@@ -57,16 +56,16 @@ fit_merged p z q a f h = by_test (is_zero z) h
 
 -- a waiting offset counts as a step
 abbrev waiting : Pending → ℕ
-waiting Empty = 0
-waiting (Waiting z) = 1
+waiting None = 0
+waiting (Some z) = 1
 
 length_flush : (p : Pending) (ss : List QPtrOp) → length (flush p ss) ≡ waiting p + length ss
-length_flush Empty ss = omega arith
-length_flush (Waiting z) ss = omega arith
+length_flush None ss = omega arith
+length_flush (Some z) ss = omega arith
 
 at_most_one : (p : Pending) → waiting p ≤ 1
-at_most_one Empty = omega arith
-at_most_one (Waiting z) = omega arith
+at_most_one None = omega arith
+at_most_one (Some z) = omega arith
 
 -- ---- one index
 
@@ -77,7 +76,7 @@ record FitMove (p : Pending) (more : ℕ) (a : Move) : Type 0 where
   count : length a.steps + waiting a.pending ≤ waiting p + more
 
 -- a step in front of what waits no more
-put : (p : Pending) (x : QPtrOp) (a : Move) → FitPending p → FitsStep x → a.steps ≡ flush p (x ∷ []) → a.pending ≡ Empty → FitMove p 1 a
+put : (p : Pending) (x : QPtrOp) (a : Move) → FitPending p → FitsStep x → a.steps ≡ flush p (x ∷ []) → a.pending ≡ None → FitMove p 1 a
 put p x a f g e w = record {
   steps = subst FitSteps (sym e) (fit_flush p (x ∷ []) f (g, tt));
   pending = subst FitPending (sym w) tt;
@@ -106,7 +105,7 @@ module _ (answer-of : ℕ → Answer) where
   fit_move : (l : TypeLayout) (i : Index) (p : Pending) (a : Move) → FitPending p → Moved answer-of l i p a → FitMove p 2 a
   fit_move (Handle Opaque) i p a f h = absurd h
   fit_move (Handle (Buffer m)) i p a f h =
-      let k = fit_part m.components i Empty h.inner tt h.by in
+      let k = fit_part m.components i None h.inner tt h.by in
       record {
         steps = subst FitSteps (sym h.steps) (fit_flush p (BufferData ∷ h.inner.steps) f (tt, k.steps));
         pending = subst FitPending (sym h.pending) k.pending;
@@ -140,7 +139,7 @@ move_count : (s : Sheet) (l : TypeLayout) → IsLayoutIn s l → (i : Index) (p 
 move_count s (Handle Opaque) o i p a f h = absurd h
 move_count s (Handle (Buffer m)) o i p a f h =
     let k = fit_move (answer_in s) (Handle (Buffer m)) i p a f h in
-    let e = part_onward s m m.components (parts s (Handle (Buffer m)) m o refl) i Empty h.inner h.by in
+    let e = part_onward s m m.components (parts s (Handle (Buffer m)) m o refl) i None h.inner h.by in
     omega (arith, k.count, ap handle (h.layout ∙ e.is))
 move_count s (HandleArray k n) o i p a f h =
     let c = put p (HandleArrayIndex i) a f tt h.0 h.1 in
@@ -161,13 +160,13 @@ count s (i ∷ is) l o p steps f h =
     omega (arith, ap length a.joined, length-append a.to.steps a.rest)
 
 -- the bytes fit by whatever a type answers
-pub bytes_fit : (answer-of : ℕ → Answer) (l : TypeLayout) (is : List Index) (steps : List QPtrOp) → lower_from answer-of l Empty is ≡ ok steps → FitSteps steps
-bytes_fit answer-of l is steps h = fit_all answer-of is l Empty steps tt h
+pub bytes_fit : (answer-of : ℕ → Answer) (l : TypeLayout) (is : List Index) (steps : List QPtrOp) → lower_from answer-of l None is ≡ ok steps → FitSteps steps
+bytes_fit answer-of l is steps h = fit_all answer-of is l None steps tt h
 
 pub steps_fit : StepsFit
 steps_fit s op ptr is steps h =
     let b = begun s op ptr is steps h in
-    let c = count s is b.layout (start_in s op b.pointee b.layout b.laid) Empty steps tt b.lowered in
+    let c = count s is b.layout (start_in s op b.pointee b.layout b.laid) None steps tt b.lowered in
     (bytes_fit (answer_in s) b.layout is steps b.lowered, omega (arith, c, one b.layout))
   where
     one : (l : TypeLayout) → handle l ≤ 1

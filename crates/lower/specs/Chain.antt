@@ -1,5 +1,5 @@
 -- Document 01, "The refusals", C: 18, layout, the walk's 19 to 23 as met, 24; and the start of OpPtrAccessChain.
-use Rattle.std.specs.Prelude.{ℕ, List, length}
+use Rattle.std.specs.Prelude.{ℕ, List, length, None}
 use Rattle.arith.specs.Refusals.{Result, ◌>>=◌, in_room}
 use Rattle.spirv.specs.declared.ChainOp.{ChainOp}
 use Rattle.spirv.specs.declared.ChainOp.TheVariants.{AccessChain, InBoundsAccessChain, PtrAccessChain, InBoundsPtrAccessChain}
@@ -9,7 +9,6 @@ use Rattle.sheet.specs.Sheet.{Sheet, pointee_in}
 use Rattle.layout.specs.Arrays.{Answer}
 use Rattle.layout.specs.Layouts.{answer_in, runtime_array_by}
 use Rattle.lower.specs.declared.QPtrOp.{QPtrOp}
-use Rattle.lower.specs.declared.Pending.TheVariants.{Empty}
 use Rattle.lower.specs.Steps.{lower_from}
 
 -- 65 and 66 start from the pointee, 67 and 70 from an undecorated runtime array of it
@@ -24,7 +23,7 @@ unfoldable pub chain_by : LayoutConfig → (pointee-of : ℕ → Result ℕ) →
 chain_by cfg pointee-of answer-of op ptr is = do
   t ← pointee-of ptr
   l ← start_layout cfg answer-of op t
-  lower_from answer-of l Empty is
+  lower_from answer-of l None is
 
 -- by what the sheet says
 abbrev pub lower_chain : Sheet → ChainOp → (ptr : ℕ) → List Index → Result (List QPtrOp)

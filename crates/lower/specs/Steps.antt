@@ -1,5 +1,6 @@
 -- Document 01, "Chain": what each index of a chain gives, by the layout that it meets.
-use Rattle.std.specs.Prelude.{ℕ, zero, suc, Bool, cond, ◌&&◌, ◌||◌, List, [], ◌∷◌, ◌++◌, leb, ltb, eqb, ℤ, pos, negsuc, ◌+ℤ◌, ◌*ℤ◌}
+use Rattle.std.specs.Prelude.{ℕ, zero, suc, Bool, cond, ◌&&◌, ◌||◌, List, [], ◌∷◌, ◌++◌, leb, ltb, eqb, ℤ, pos, negsuc, ◌+ℤ◌, ◌*ℤ◌, None, Some}
+use Rattle.std.specs.Prelude as std
 use Rattle.std.proofs.Math.Option.{Option, none, some}
 use Rattle.arith.specs.Refusals.{Result, ok, refused, ◌>>=◌, ◌>>◌, refuse◌when◌, refuse◌unless◌, no_parts, unknown_field, field_outside, far_field, step_overflow}
 use Rattle.arith.specs.Numbers.{max_i32, signed, is_i32, is_zero}
@@ -9,22 +10,24 @@ use Rattle.shapes.specs.Shapes.{Components, Scalar, Elements, Fields, Opaque, Bu
 use Rattle.layout.specs.Arrays.{Answer}
 use Rattle.lower.specs.declared.QPtrOp.{QPtrOp}
 use Rattle.lower.specs.declared.QPtrOp.TheVariants.{HandleArrayIndex, BufferData, Offset, DynOffset}
-use Rattle.lower.specs.declared.Pending.{Pending}
-use Rattle.lower.specs.declared.Pending.TheVariants.{Empty, Waiting}
 
 -- ---- constant offsets
 
+-- an offset that waits, since a next one is added to it
+abbrev pub Pending : Type 0
+Pending = std.Option ℤ
+
 -- the waiting offset in front of other steps
 abbrev pub flush : Pending → List QPtrOp → List QPtrOp
-flush Empty steps = steps
-flush (Waiting z) steps = Offset z ∷ steps
+flush None steps = steps
+flush (Some z) steps = Offset z ∷ steps
 
 -- an offset after an offset is added to it, and the sum may be 0 and stays
 unfoldable pub added : Pending → ℤ → Result Pending
-added Empty z = ok (Waiting z)
-added (Waiting y) z = do
+added None z = ok (Some z)
+added (Some y) z = do
   refuse step_overflow unless is_i32 (y +ℤ z)
-  ok (Waiting (y +ℤ z))
+  ok (Some (y +ℤ z))
 
 -- a new offset 0 is dropped
 unfoldable pub merged : Pending → ℤ → Result Pending
@@ -86,7 +89,7 @@ unfoldable pub by_constant : Option ℤ → (d : QPtrOp) → Pending → TypeLay
 by_constant (some z) d p l = do
   q ← merged p z
   ok record { steps = []; pending = q; layout = l }
-by_constant none d p l = ok record { steps = flush p (d ∷ []); pending = Empty; layout = l }
+by_constant none d p l = ok record { steps = flush p (d ∷ []); pending = None; layout = l }
 
 unfoldable pub to_element : (answer-of : ℕ → Answer) → (stride elem len : ℕ) → Index → Pending → Result Move
 to_element answer-of stride elem len i p = do
@@ -104,9 +107,9 @@ to_part answer-of (Fields offsets types) i p = to_field answer-of offsets types 
 unfoldable pub move : (answer-of : ℕ → Answer) → TypeLayout → Index → Pending → Result Move
 move answer-of (Handle Opaque) i p = refused no_parts
 move answer-of (Handle (Buffer m)) i p = do
-  a ← to_part answer-of m.components i Empty
+  a ← to_part answer-of m.components i None
   ok record { steps = flush p (BufferData ∷ a.steps); pending = a.pending; layout = a.layout }
-move answer-of (HandleArray h len) i p = ok record { steps = flush p (HandleArrayIndex i ∷ []); pending = Empty; layout = Handle h }
+move answer-of (HandleArray h len) i p = ok record { steps = flush p (HandleArrayIndex i ∷ []); pending = None; layout = Handle h }
 move answer-of (Concrete m) i p = to_part answer-of m.components i p
 
 -- ---- all indices

@@ -7,6 +7,7 @@ use mathlib.Core.Option.{Option, none, some}
 use lib.IntN.{ℤ, pos, negsuc, ◌+ℤ◌, ◌*ℤ◌, +ℤ_assoc, +ℤ_idr}
 use lib.ListN.{get_elem?}
 use borrow.Author.Tests.{eqb-true}
+use Rattle.std.specs.Prelude.{None, Some}
 use Rattle.arith.specs.Options.{◌>>=◌}
 use Rattle.arith.specs.Refusals.{ok}
 use Rattle.arith.specs.Numbers.{is_zero}
@@ -19,9 +20,7 @@ use Rattle.sheet.specs.Sheet.{Sheet}
 use Rattle.layout.specs.Layouts.{answer_in}
 use Rattle.lower.specs.declared.QPtrOp.{QPtrOp}
 use Rattle.lower.specs.declared.QPtrOp.TheVariants.{HandleArrayIndex, BufferData, DynOffset}
-use Rattle.lower.specs.declared.Pending.{Pending}
-use Rattle.lower.specs.declared.Pending.TheVariants.{Empty, Waiting}
-use Rattle.lower.specs.Steps.{flush, added, merged, Move, bound_of, lower_from}
+use Rattle.lower.specs.Steps.{Pending, flush, added, merged, Move, bound_of, lower_from}
 use Rattle.lower.specs.Chain.{start_layout}
 use Rattle.lower.proofs.Moves.{ToField, ToElement, ByConstant, ToPart, Moved, first_of, none_left, begun}
 use Rattle.promise.specs.Meaning.{Values, value, Spot, plus, moved, entered, run}
@@ -33,16 +32,16 @@ use Rattle.promise.proofs.Agreement.{offset_is, stride_is, AgreesParts, Agrees, 
 
 -- the spot once it is added
 abbrev pub after : Spot → Pending → Spot
-after σ Empty = σ
-after σ (Waiting z) = moved σ z
+after σ None = σ
+after σ (Some z) = moved σ z
 
 run_append : (v : Values) (ss ts : List QPtrOp) (σ : Spot) → run v (ss ++ ts) σ ≡ run v ts (run v ss σ)
 run_append v [] ts σ = refl
 run_append v (s ∷ ss) ts σ = run_append v ss ts _
 
 run_flush : (v : Values) (p : Pending) (ss : List QPtrOp) (σ : Spot) → run v (flush p ss) σ ≡ run v ss (after σ p)
-run_flush v Empty ss σ = refl
-run_flush v (Waiting z) ss σ = refl
+run_flush v None ss σ = refl
+run_flush v (Some z) ss σ = refl
 
 plus_zero : (b : Option ℤ) (z : ℤ) → is_zero z ≡ true → b ≡ plus b z
 plus_zero none z e = refl
@@ -58,8 +57,8 @@ with_byte σ e = ap (λ (c : Option ℤ). record { handle = σ.handle; byte = c 
 
 added_is : (p : Pending) (z : ℤ) (q : Pending) → added p z ≡ ok q → (σ : Spot) → after σ q ≡ moved (after σ p) z
 unfolding added
-added_is Empty z q h σ = ap (after σ) (sym (value_is h))
-added_is (Waiting y) z q h σ = ap (after σ) (sym (value_is (passed _ _ h))) ∙ with_byte σ (plus_twice σ.byte y z)
+added_is None z q h σ = ap (after σ) (sym (value_is h))
+added_is (Some y) z q h σ = ap (after σ) (sym (value_is (passed _ _ h))) ∙ with_byte σ (plus_twice σ.byte y z)
 
 merged_is : (p : Pending) (z : ℤ) (q : Pending) → merged p z ≡ ok q → (σ : Spot) → after σ q ≡ moved (after σ p) z
 unfolding merged
@@ -128,8 +127,8 @@ module _ (s : Sheet) (v : Values) where
   unfolding step step_by
   leads w (Handle Opaque) e g i p a h σ μ = absurd h
   leads w (Handle (Buffer m)) e g i p a h σ μ =
-      let f : ToField (answer_in s) g.0 g.1 i Empty h.inner = subst (λ (c : Components). ToPart (answer_in s) c i Empty h.inner) g.2 h.by in
-      let there = into_field_lem w g.0 g.1 (offset_is s w m g.0 g.1 (ap memory_of e) g.2) i Empty h.inner f (entered (after σ p)) (entered (after σ p)) (some w) refl in
+      let f : ToField (answer_in s) g.0 g.1 i None h.inner = subst (λ (c : Components). ToPart (answer_in s) c i None h.inner) g.2 h.by in
+      let there = into_field_lem w g.0 g.1 (offset_is s w m g.0 g.1 (ap memory_of e) g.2) i None h.inner f (entered (after σ p)) (entered (after σ p)) (some w) refl in
       record {
         to = f.field.type;
         laid = f.laid ∙ ap (λ (x : TypeLayout). ok x) (sym h.layout);
@@ -198,7 +197,7 @@ same_byte s op ptr is steps h v =
     let b = begun s op ptr is steps h in
     let w = start_type op b.pointee in
     let from = start_by (kind_of s w) w in
-    let r = all_lead s v is w b.layout (start_laid s op b.pointee ∙ b.laid) Empty steps b.lowered from.spot from.memory in
+    let r = all_lead s v is w b.layout (start_laid s op b.pointee ∙ b.laid) None steps b.lowered from.spot from.memory in
     record {
       by_walk = record { pointee = b.pointee; points = b.points; reached = r.reached; walked = ap (walk s v is) (sym (start_place_lem (kind_of s w) w)) ∙ r.walked };
       by_steps = r.same;

@@ -10,6 +10,7 @@ use native.Mathlib.Omega.{arith}
 use lib.Dec.{ltb}
 use lib.ListN.{length, get_elem?}
 use borrow.Author.Tests.{lt-ltb, ltb-true}
+use Rattle.std.specs.Prelude.{None}
 use Rattle.arith.specs.Refusals.{ok, refused, refuse◌unless◌, misread}
 use Rattle.arith.proofs.Results.{never, value_is, went, no_some, RefusedBy, fine_by, this_by, then_by, and_by, unless_by, when_by, wider_by, first_true, second_true}
 use Rattle.spirv.specs.declared.ChainOp.{ChainOp}
@@ -31,7 +32,6 @@ use Rattle.layout.specs.Statements.{Has, PartsOf, IsLayoutRefusal}
 use Rattle.layout.proofs.InSheet.{decl_there}
 use Rattle.layout.proofs.Parts.{parts}
 use Rattle.layout.proofs.Refusals.{refused_only, array_only, element_there}
-use Rattle.lower.specs.declared.Pending.TheVariants.{Empty}
 use Rattle.lower.specs.Steps.{Field, field_at}
 use Rattle.lower.specs.Chain.{start_layout, chain_by, lower_chain}
 use Rattle.lower.specs.Other.{buffer_of, member_of, runtime_stride, stride_of_part, length_in, length_by, array_length, variable_by}
@@ -152,7 +152,7 @@ module _ (s : Sheet) (good : GoodSheet s) where
   unfolding chain_by range
   chain_by_lem op ptr is lt =
       then_by _ _ (pointee_by (Behind walk_numbers) ptr lt (inl refl)) λ t h. then_by _ _ (start_by op t (pointee_lower ptr t h) (layout_behind walk_numbers)) λ l g.
-      wider_by (λ n k. other_behind walk_numbers n (in_range 19 5 n k.0 (omega (arith, k.1)))) (chain_only s is l (start_in s op t l g) Empty)
+      wider_by (λ n k. other_behind walk_numbers n (in_range 19 5 n k.0 (omega (arith, k.1)))) (chain_only s is l (start_in s op t l g) None)
 
   -- so none of them is 0
   pub chain_above_0 : (op : ChainOp) (ptr : ℕ) (is : List Index) → ptr < length s.types → RefusedBy (λ n. 0 < n) (lower_chain s op ptr is)

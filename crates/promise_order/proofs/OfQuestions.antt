@@ -5,6 +5,7 @@ use mathlib.Core.Bool.{Bool, true, false, not, cond, ◌&&◌}
 use mathlib.Core.List.{List, [], ◌∷◌}
 use mathlib.Core.Option.{Option, none, some}
 use lib.IntN.{ℤ, pos, ◌+ℤ◌}
+use Rattle.std.specs.Prelude.{None, Some}
 use Rattle.arith.specs.Refusals.{ok, ◌>>◌, refuse◌when◌, refuse◌unless◌, step_overflow}
 use Rattle.arith.specs.Numbers.{signed, is_i32, is_zero}
 use Rattle.spirv.specs.declared.Index.{Index}
@@ -19,9 +20,7 @@ use Rattle.layout.specs.Arrays.{Answer}
 use Rattle.layout.specs.Layouts.{answer_in}
 use Rattle.layout.specs.Lookup.{in_memory_only, lookup_by}
 use Rattle.lower.specs.declared.QPtrOp.{QPtrOp}
-use Rattle.lower.specs.declared.Pending.{Pending}
-use Rattle.lower.specs.declared.Pending.TheVariants.{Empty, Waiting}
-use Rattle.lower.specs.Steps.{added, merged, field_of, to_field, constant_offset, by_constant, to_element, to_part, move, lower_from}
+use Rattle.lower.specs.Steps.{Pending, added, merged, field_of, to_field, constant_offset, by_constant, to_element, to_part, move, lower_from}
 use Rattle.lower.specs.Chain.{start_layout, chain_by}
 use Rattle.lower.specs.Other.{buffer_of, member_of, runtime_stride, stride_of_part, length_in, length_by, variable_by}
 use Rattle.answers.specs.Lines.{answer_by, answer}
@@ -33,14 +32,14 @@ use Rattle.promise_order.proofs.Due.{fine, always, alone, then, then_own, then_b
 
 sum_in : (p : Pending) (z : ℤ) → InOrder (merged p z) (step_overflow due-where sum_over p z ∷ [])
 unfolding merged added first refusal_of ◌>>◌ refuse◌unless◌
-sum_in Empty z = record { comes = by (is_zero z) }
+sum_in None z = record { comes = by (is_zero z) }
   where
-    by : (t : Bool) → refusal_of (cond t (ok Empty) (ok (Waiting z))) ≡ none
+    by : (t : Bool) → refusal_of (cond t (ok None) (ok (Some z))) ≡ none
     by true = refl
     by false = refl
-sum_in (Waiting y) z = record { comes = by (is_zero z) (is_i32 (y +ℤ z)) }
+sum_in (Some y) z = record { comes = by (is_zero z) (is_i32 (y +ℤ z)) }
   where
-    by : (t u : Bool) → refusal_of (cond t (ok (Waiting y)) ((refuse step_overflow unless u) >> ok (Waiting (y +ℤ z)))) ≡ cond (not t && not u) (some step_overflow) none
+    by : (t u : Bool) → refusal_of (cond t (ok (Some y)) ((refuse step_overflow unless u) >> ok (Some (y +ℤ z)))) ≡ cond (not t && not u) (some step_overflow) none
     by true u = refl
     by false true = refl
     by false false = refl
@@ -65,7 +64,7 @@ module _ (answer-of : ℕ → Answer) where
   move_in : (l : TypeLayout) (i : Index) (p : Pending) → InOrder (move answer-of l i p) (move_tests answer-of l i p)
   unfolding move
   move_in (Handle Opaque) i p = always _
-  move_in (Handle (Buffer m)) i p = then_value _ _ _ (part_in m.components i Empty)
+  move_in (Handle (Buffer m)) i p = then_value _ _ _ (part_in m.components i None)
   move_in (HandleArray h n) i p = fine
   move_in (Concrete m) i p = part_in m.components i p
 
@@ -138,7 +137,7 @@ module _ (s : Sheet) where
   question_in (Question.Q t start end) =
       then_value _ _ _ (then_unless _ _ _ _ λ f. then_when _ _ _ _ λ g. then_own (answer_in s t) _ _ λ l h. then_value _ _ _ (memory_in l))
   question_in (Question.C op ptr is) =
-      then_value _ _ _ (then_behind (pointee_in s ptr) _ (pointer_tests s ptr) _ (pointer_in ptr) λ t h. then_own (start_layout s.setting (answer_in s) op t) _ _ λ l g. walk_in (answer_in s) is l Empty)
+      then_value _ _ _ (then_behind (pointee_in s ptr) _ (pointer_tests s ptr) _ (pointer_in ptr) λ t h. then_own (start_layout s.setting (answer_in s) op t) _ _ λ l g. walk_in (answer_in s) is l None)
   question_in (Question.L ptr member) = then_value _ _ _ (length_in_lem ptr member)
   question_in (Question.X ptr) = then_value _ _ _ (then_behind (pointee_in s ptr) _ (pointer_tests s ptr) _ (pointer_in ptr) λ t h. then_value _ _ _ (alone (answer_in s t)))
 

@@ -1,5 +1,5 @@
 -- Document 01, "The refusals", its last lines: the order of each question's refusals. A number that is no type, 1, comes before them in a call.
-use Rattle.std.specs.Prelude.{ℕ, Bool, true, false, not, ◌&&◌, List, [], ◌∷◌, ◌++◌, leb, ltb, eqb, ℤ, pos, ◌+ℤ◌, length}
+use Rattle.std.specs.Prelude.{ℕ, Bool, true, false, not, ◌&&◌, List, [], ◌∷◌, ◌++◌, leb, ltb, eqb, ℤ, pos, ◌+ℤ◌, length, None, Some}
 use Rattle.std.proofs.Math.Option.{Option, none, some}
 use Rattle.arith.specs.Refusals.{misread, no_pointer, no_parts, unknown_field, far_field, step_overflow, no_buffer, no_runtime_array, not_last, reversed}
 use Rattle.arith.specs.Numbers.{max_i32, signed, is_i32, is_zero}
@@ -13,9 +13,7 @@ use Rattle.shapes.specs.Shapes.{Components, Scalar, Elements, Fields, Opaque, Bu
 use Rattle.sheet.specs.Sheet.{Sheet, decl_in, pointee_in}
 use Rattle.layout.specs.Arrays.{Answer}
 use Rattle.layout.specs.Layouts.{answer_in}
-use Rattle.lower.specs.declared.Pending.{Pending}
-use Rattle.lower.specs.declared.Pending.TheVariants.{Empty, Waiting}
-use Rattle.lower.specs.Steps.{Field, field_of, constant_offset, move}
+use Rattle.lower.specs.Steps.{Pending, Field, field_of, constant_offset, move}
 use Rattle.lower.specs.Chain.{start_layout}
 use Rattle.lower.specs.Other.{buffer_of, member_of}
 use Rattle.answers.specs.Lines.{answer}
@@ -57,8 +55,8 @@ pointer_tests s ptr = own (decl_in s ptr) ∷ behind (decl_in s ptr) λ d. no_po
 
 -- an offset other than 0 behind one that waits, and their sum doesn't fit
 abbrev pub sum_over : Pending → ℤ → Bool
-sum_over Empty z = false
-sum_over (Waiting y) z = not (is_zero z) && not (is_i32 (y +ℤ z))
+sum_over None z = false
+sum_over (Some y) z = not (is_zero z) && not (is_i32 (y +ℤ z))
 
 abbrev pub constant_over : Pending → Option ℤ → Bool
 constant_over p none = false
@@ -79,7 +77,7 @@ part_tests answer-of (Fields offsets types) i p = field_tests answer-of offsets 
 
 abbrev pub move_tests : (answer-of : ℕ → Answer) → TypeLayout → Index → Pending → List Test
 move_tests answer-of (Handle Opaque) i p = no_parts due-where true ∷ []
-move_tests answer-of (Handle (Buffer m)) i p = part_tests answer-of m.components i Empty
+move_tests answer-of (Handle (Buffer m)) i p = part_tests answer-of m.components i None
 move_tests answer-of (HandleArray h n) i p = []
 move_tests answer-of (Concrete m) i p = part_tests answer-of m.components i p
 
@@ -91,7 +89,7 @@ abbrev pub chain_tests : Sheet → ChainOp → (ptr : ℕ) → List Index → Li
 chain_tests s op ptr is =
     pointer_tests s ptr
     ++ behind (pointee_in s ptr) λ t. own (start_layout s.setting (answer_in s) op t)
-    ∷ behind (start_layout s.setting (answer_in s) op t) λ l. walk_tests (answer_in s) l Empty is
+    ∷ behind (start_layout s.setting (answer_in s) op t) λ l. walk_tests (answer_in s) l None is
 
 -- ---- L: 18, layout, 25, 21, 26, 27
 

@@ -7,6 +7,7 @@ use mathlib.Core.Logic.{◌⊎◌, inl, inr}
 use mathlib.Core.Option.{Option, none, some}
 use lib.Dec.{leb}
 use lib.IntN.{ℤ, pos, ◌+ℤ◌}
+use Rattle.std.specs.Prelude.{None, Some}
 use Rattle.arith.specs.Refusals.{Result, ok, refused, ◌>>=◌, ◌>>◌, refuse◌unless◌, far_field, step_overflow}
 use Rattle.arith.specs.Numbers.{max_i32, signed, is_i32, is_zero}
 use Rattle.spirv.specs.declared.Index.{Index}
@@ -14,9 +15,7 @@ use Rattle.spirv.specs.declared.Index.TheVariants.{Known, Unknown}
 use Rattle.shapes.specs.Shapes.{Components, Scalar, Elements, Fields, Opaque, Buffer, TypeLayout, Handle, HandleArray, Concrete}
 use Rattle.layout.specs.Arrays.{Answer}
 use Rattle.lower.specs.declared.QPtrOp.{QPtrOp}
-use Rattle.lower.specs.declared.Pending.{Pending}
-use Rattle.lower.specs.declared.Pending.TheVariants.{Empty, Waiting}
-use Rattle.lower.specs.Steps.{added, merged, field_of, Move, to_field, constant_offset, by_constant, to_element, to_part, move, lower_from}
+use Rattle.lower.specs.Steps.{Pending, added, merged, field_of, Move, to_field, constant_offset, by_constant, to_element, to_part, move, lower_from}
 use Rattle.promise_split.specs.Statements.{AlikeBut23}
 use Rattle.promise_split.proofs.Walks.{onto}
 
@@ -70,10 +69,10 @@ Or23 (refused n) = n ≡ step_overflow
 
 added_or : (p : Pending) (z : ℤ) → Or23 (added p z)
 unfolding added ◌>>◌ refuse◌unless◌
-added_or Empty z = tt
-added_or (Waiting y) z = by_test (is_i32 (y +ℤ z))
+added_or None z = tt
+added_or (Some y) z = by_test (is_i32 (y +ℤ z))
   where
-    by_test : (t : Bool) → Or23 ((refuse step_overflow unless t) >> ok (Waiting (y +ℤ z)))
+    by_test : (t : Bool) → Or23 ((refuse step_overflow unless t) >> ok (Some (y +ℤ z)))
     by_test true = tt
     by_test false = refl
 
@@ -120,7 +119,7 @@ module _ (answer-of : ℕ → Answer) where
   move_like : (l : TypeLayout) (i : Index) (p q : Pending) → Like SameLayout (move answer-of l i p) (move answer-of l i q)
   unfolding Like move
   move_like (Handle Opaque) i p q = inr (inr refl)
-  move_like (Handle (Buffer m)) i p q = same_like SameLayout (to_part answer-of m.components i Empty) _ _ λ a. refl
+  move_like (Handle (Buffer m)) i p q = same_like SameLayout (to_part answer-of m.components i None) _ _ λ a. refl
   move_like (HandleArray h len) i p q = refl
   move_like (Concrete m) i p q = part_like m.components i p q
 

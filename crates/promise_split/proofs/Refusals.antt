@@ -4,6 +4,7 @@ use mathlib.Core.Path.{◌≡◌, refl, sym, ap, ◌∙◌, subst}
 use mathlib.Core.List.{List, [], ◌∷◌, ◌++◌}
 use mathlib.Core.Logic.{inl, inr}
 use lib.IntN.{pos}
+use Rattle.std.specs.Prelude.{None}
 use Rattle.arith.specs.Refusals.{Result, ok, refused, ◌>>=◌}
 use Rattle.arith.proofs.Results.{never, not_both}
 use Rattle.spirv.specs.declared.ChainOp.{ChainOp}
@@ -13,9 +14,7 @@ use Rattle.sheet.specs.Sheet.{Sheet, pointee_in}
 use Rattle.layout.specs.Arrays.{Answer}
 use Rattle.layout.specs.Layouts.{answer_in}
 use Rattle.lower.specs.declared.QPtrOp.{QPtrOp}
-use Rattle.lower.specs.declared.Pending.{Pending}
-use Rattle.lower.specs.declared.Pending.TheVariants.{Empty}
-use Rattle.lower.specs.Steps.{Move, move, lower_from}
+use Rattle.lower.specs.Steps.{Pending, Move, move, lower_from}
 use Rattle.lower.specs.Chain.{start_layout, chain_by, lower_chain}
 use Rattle.lower.specs.Statements.{Accepted}
 use Rattle.promise.specs.Meaning.{Values}
@@ -32,11 +31,11 @@ through_pointer s ptr t is h = rw h refl
 
 -- a chain by where it begins
 chain_is : (s : Sheet) (op : ChainOp) (ptr t : ℕ) (l : TypeLayout) → pointee_in s ptr ≡ ok t → start_layout s.setting (answer_in s) op t ≡ ok l
-    → (is : List Index) → lower_chain s op ptr is ≡ lower_from (answer_in s) l Empty is
+    → (is : List Index) → lower_chain s op ptr is ≡ lower_from (answer_in s) l None is
 unfolding chain_by ◌>>=◌
 chain_is s op ptr t l h g is = rw h (rw g refl)
 
-second_is : (s : Sheet) (t : ℕ) (l : TypeLayout) → layout_at s (type_no t) ≡ ok l → (is : List Index) → lower_from_type s t is ≡ lower_from (answer_in s) l Empty is
+second_is : (s : Sheet) (t : ℕ) (l : TypeLayout) → layout_at s (type_no t) ≡ ok l → (is : List Index) → lower_from_type s t is ≡ lower_from (answer_in s) l None is
 unfolding lower_from_type chain_by start_layout layout_at ◌>>=◌
 second_is s t l h is = rw h refl
 
@@ -53,7 +52,7 @@ split_refusals s op ptr is js first t h reach =
     let second = second_is s t f.left.layout laid js in
     subst (λ (x : Result (List QPtrOp)). AlikeBut23 x (lower_from_type s t js)) (sym whole)
     (subst (AlikeBut23 (onto f.left.steps (lower_from (answer_in s) f.left.layout f.left.waiting js))) (sym second)
-    (alike_onto (answer_in s) f.left.steps js f.left.layout f.left.waiting Empty))
+    (alike_onto (answer_in s) f.left.steps js f.left.layout f.left.waiting None))
 
 -- ---- where one of the two is accepted
 
@@ -92,12 +91,12 @@ pub first_refused : FirstRefused
 unfolding chain_by ◌>>=◌
 first_refused s op ptr is js n h = by_pointee (pointee_in s ptr) h
   where
-    by_layout : (r : Answer) → (r >>= λ l. lower_from (answer_in s) l Empty is) ≡ refused n → (r >>= λ l. lower_from (answer_in s) l Empty (is ++ js)) ≡ refused n
-    by_layout (ok l) g = lower_refused (answer_in s) is js l Empty n g
+    by_layout : (r : Answer) → (r >>= λ l. lower_from (answer_in s) l None is) ≡ refused n → (r >>= λ l. lower_from (answer_in s) l None (is ++ js)) ≡ refused n
+    by_layout (ok l) g = lower_refused (answer_in s) is js l None n g
     by_layout (refused m) g = g
 
-    by_pointee : (r : Result ℕ) → (r >>= λ t. start_layout s.setting (answer_in s) op t >>= λ l. lower_from (answer_in s) l Empty is) ≡ refused n
-        → (r >>= λ t. start_layout s.setting (answer_in s) op t >>= λ l. lower_from (answer_in s) l Empty (is ++ js)) ≡ refused n
+    by_pointee : (r : Result ℕ) → (r >>= λ t. start_layout s.setting (answer_in s) op t >>= λ l. lower_from (answer_in s) l None is) ≡ refused n
+        → (r >>= λ t. start_layout s.setting (answer_in s) op t >>= λ l. lower_from (answer_in s) l None (is ++ js)) ≡ refused n
     by_pointee (ok t) g = by_layout (start_layout s.setting (answer_in s) op t) g
     by_pointee (refused m) g = g
 

@@ -5,6 +5,7 @@ use mathlib.Core.List.{List, [], ◌∷◌}
 use mathlib.Core.Option.{Option, none, some}
 use lib.IntN.{ℤ, pos, negsuc, ◌+ℤ◌, ◌*ℤ◌}
 use lib.ListN.{get_elem?}
+use Rattle.std.specs.Prelude.{None}
 use Rattle.arith.specs.Options as options
 use Rattle.arith.specs.Refusals.{ok}
 use Rattle.arith.proofs.Results.{value_is, no_some, some_is, went_on}
@@ -15,9 +16,7 @@ use Rattle.layout.specs.Layouts.{answer_in}
 use Rattle.layout.specs.Statements.{IsLayoutIn}
 use Rattle.layout.proofs.Parts.{parts}
 use Rattle.lower.specs.declared.QPtrOp.{QPtrOp}
-use Rattle.lower.specs.declared.Pending.{Pending}
-use Rattle.lower.specs.declared.Pending.TheVariants.{Empty}
-use Rattle.lower.specs.Steps.{Move, lower_from}
+use Rattle.lower.specs.Steps.{Pending, Move, lower_from}
 use Rattle.lower.proofs.Moves.{Moved, first_of}
 use Rattle.lower.proofs.Onward.{part_onward}
 use Rattle.promise.specs.Meaning.{Values, value, Spot, plus, moved, entered, picked}
@@ -181,7 +180,7 @@ module _ (s : Sheet) (v : Values) where
   step_bytes w (Handle (Buffer m)) e i p a h σ μ r b g =
       let k = agrees s w (Handle (Buffer m)) e in
       let t = subst (λ (k : Kind). step_by s k (place w σ μ) (value v i) ≡ some r) k.3 g in
-      let o = part_onward s m m.components (parts s (Handle (Buffer m)) m (layout_in s w _ e) refl) i Empty h.inner h.by in
+      let o = part_onward s m m.components (parts s (Handle (Buffer m)) m (layout_in s w _ e) refl) i None h.inner h.by in
       subst (λ (x : TypeLayout). Bytes x r.spot.byte) (sym (h.layout ∙ o.is)) (field_byte k.1 w (entered σ) (some w) (value v i) (pos 0) r refl t)
   step_bytes w (HandleArray k n) e i p a h σ μ r b g =
       let t = some_is (subst (λ (k : Kind). step_by s k (place w σ μ) (value v i) ≡ some r) (agrees s w (HandleArray k n) e).1 g) in

@@ -4,6 +4,7 @@ use mathlib.Core.Path.{◌≡◌, refl, sym, ap, ◌∙◌, subst}
 use mathlib.Core.List.{List, [], ◌∷◌, ◌++◌}
 use mathlib.Core.Option.{Option, none, some}
 use lib.IntN.{ℤ, pos, +ℤ_assoc, +ℤ_idr}
+use Rattle.std.specs.Prelude.{None}
 use Rattle.arith.specs.Refusals.{ok}
 use Rattle.arith.proofs.Results.{value_is, some_is, went}
 use Rattle.spirv.specs.declared.ChainOp.{ChainOp}
@@ -13,7 +14,6 @@ use Rattle.shapes.specs.Shapes.{Components, Scalar, Elements, Fields, Opaque, Bu
 use Rattle.sheet.specs.Sheet.{Sheet}
 use Rattle.layout.specs.Layouts.{answer_in}
 use Rattle.lower.specs.declared.QPtrOp.{QPtrOp}
-use Rattle.lower.specs.declared.Pending.TheVariants.{Empty}
 use Rattle.lower.specs.Steps.{flush, lower_from}
 use Rattle.lower.specs.Chain.{start_layout, chain_by}
 use Rattle.lower.specs.Statements.{Accepted}
@@ -39,7 +39,7 @@ one_walk s op ptr is v a b =
 -- the first part as lowering leaves it, and its walk
 pub record FromStart (s : Sheet) (op : ChainOp) (ptr : ℕ) (is : List Index) (first : List QPtrOp) : Type 0 where
   pub begin : Begun s op ptr is first
-  pub left : Left s is (start_type op begin.pointee) begin.layout Empty first
+  pub left : Left s is (start_type op begin.pointee) begin.layout None first
   pub walks : (v : Values) → (w : Walks s op ptr is v) × (w.reached.type ≡ left.to)
 
 pub from_start : (s : Sheet) (op : ChainOp) (ptr : ℕ) (is : List Index) (first : List QPtrOp) → Accepted s op ptr is first → FromStart s op ptr is first
@@ -48,7 +48,7 @@ from_start s op ptr is first h =
     let b = begun s op ptr is first h in
     let w = start_type op b.pointee in
     let from = start_by (kind_of s w) w in
-    let k = left_of s is w b.layout (start_laid s op b.pointee ∙ b.laid) Empty first b.lowered in
+    let k = left_of s is w b.layout (start_laid s op b.pointee ∙ b.laid) None first b.lowered in
     record {
       begin = b;
       left = k;
@@ -69,7 +69,7 @@ type_reached s op ptr i is steps h =
 pub record Second (s : Sheet) (t : ℕ) (js : List Index) (second : List QPtrOp) : Type 0 where
   pub layout : TypeLayout
   pub laid : layout_at s (type_no t) ≡ ok layout
-  pub lowered : lower_from (answer_in s) layout Empty js ≡ ok second
+  pub lowered : lower_from (answer_in s) layout None js ≡ ok second
 
 pub second_of : (s : Sheet) (t : ℕ) (js : List Index) (second : List QPtrOp) → lower_from_type s t js ≡ ok second → Second s t js second
 unfolding lower_from_type chain_by start_layout layout_at
@@ -82,7 +82,7 @@ second_of s t js second h =
 steps_walk : (s : Sheet) (t : ℕ) (js : List Index) (second : List QPtrOp) → Second s t js second → (v : Values) (σ : Spot) (μ : Option Walked) (q : Place)
     → walk s v js (place (type_no t) σ μ) ≡ some q → run v second σ ≡ q.spot
 steps_walk s t js second d v σ μ q h =
-    let k = left_of s js (type_no t) d.layout d.laid Empty second d.lowered in
+    let k = left_of s js (type_no t) d.layout d.laid None second d.lowered in
     let r = k.walks v σ μ in
     ap (λ (x : List QPtrOp). run v x σ) k.first_is ∙ run_append v k.steps (flush k.waiting []) σ ∙ run_flush v k.waiting (run v k.steps σ)
     ∙ ap (λ (x : Place). x.spot) (some_is (sym r.walked ∙ h))
@@ -104,7 +104,7 @@ split_chains s op ptr is js whole first t second h v =
     let d = second_of s t js second h.second_accepted in
     let onward = onward_walk s op ptr is js t v w.by_walk f.by_walk at in
     let there = walk_shift s v (λ σ. σ) (λ σ z. refl) (λ σ z. refl) js (type_no t) d.layout d.laid (any_free s v (λ σ. σ) (λ σ z. refl) (λ σ z. refl) (λ σ. refl) d.layout)
-    Empty second d.lowered f.by_walk.reached.spot f.by_walk.reached.memory w.by_walk.reached onward (start s AccessChain t).memory in
+    None second d.lowered f.by_walk.reached.spot f.by_walk.reached.memory w.by_walk.reached onward (start s AccessChain t).memory in
     let same : f.by_walk.pointee ≡ w.by_walk.pointee = value_is (sym f.by_walk.points ∙ w.by_walk.points) in
     record {
       whole_walk = w.by_walk;
@@ -183,13 +183,13 @@ split_apart s op ptr is js whole first t second h v =
     let walked : walk s v is (place begin from.spot from.memory) ≡ some one.0.reached =
     ap (walk s v is) (start_place_lem (kind_of s begin) begin) ∙ ap (λ (x : ℕ). walk s v is (start s op x)) (value_is (sym f.begin.points ∙ one.0.points)) ∙ one.0.walked in
     let bytes : Bytes d.layout σ.byte =
-    walk_bytes s v is begin f.begin.layout laid Empty first f.begin.lowered from.spot from.memory one.0.reached
+    walk_bytes s v is begin f.begin.layout laid None first f.begin.lowered from.spot from.memory one.0.reached
     (start_bytes s v begin f.begin.layout (agrees s begin f.begin.layout laid)) walked d.layout (ap (layout_at s) at ∙ d.laid) in
     let own = start_by (kind_of s (type_no t)) (type_no t) in
-    let k = left_of s js (type_no t) d.layout d.laid Empty second d.lowered in
+    let k = left_of s js (type_no t) d.layout d.laid None second d.lowered in
     let e = k.walks v own.spot own.memory in
     let there = walk_shift s v (joined σ) (joined_moves σ) (joined_picks σ) js (type_no t) d.layout d.laid (free_by s v σ d.layout bytes)
-    Empty second d.lowered own.spot own.memory _ e.walked one.0.reached.memory in
+    None second d.lowered own.spot own.memory _ e.walked one.0.reached.memory in
     let begins : joined σ own.spot ≡ σ = joined_start s v (type_no t) d.layout (agrees s (type_no t) d.layout d.laid) σ bytes in
     let ends : place k.to (joined σ (after (run v k.steps own.spot) k.waiting)) there.mem ≡ w.reached =
     some_is (sym there.walked ∙ ap (λ (x : Spot). walk s v js (place (type_no t) x one.0.reached.memory)) begins ∙ onward) in
