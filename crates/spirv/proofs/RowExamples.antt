@@ -1,5 +1,6 @@
 -- Rows, indices and the reduction of D lines, computed from the definitions. Assumes nothing.
 use Prim.Native.Nat.{ℕ}
+use Rattle.std.specs.Prelude.{Some, None}
 use mathlib.Core.Path.{◌≡◌, refl}
 use mathlib.Core.Bool.{true, false}
 use mathlib.Core.List.{[], ◌∷◌, map}
@@ -8,8 +9,6 @@ use Rattle.spirv.specs.declared.Stride.TheVariants.{Decorated, Undecorated}
 use Rattle.spirv.specs.declared.SpvType.TheVariants as spv
 use Rattle.spirv.specs.declared.Decoration.TheVariants.{RowMajor, Offset}
 use Rattle.spirv.specs.declared.MemberDecoration.{MemberDecoration}
-use Rattle.spirv.specs.declared.RowReading.TheVariants as row
-use Rattle.spirv.specs.declared.IndexReading.TheVariants as index
 use Rattle.spirv.specs.declared.Index.TheVariants.{Known, Unknown}
 use Rattle.spirv.specs.Rows.{same_words, encode_row, type_of, row_of, row_of_words, decode_row, struct_row, plain_row, decode_index}
 use Rattle.spirv.specs.Reduced.{refusing, taken_in, reduced_by, reduced, given_words}
@@ -29,12 +28,12 @@ rows = refl
 
 -- words that no row has: another letter, a word behind a bool, a length beside `s`, a block of 2, five words, seven
 broken : map decode_row ((0 ∷ 0 ∷ 0 ∷ 0 ∷ 0 ∷ 0 ∷ []) ∷ (66 ∷ 0 ∷ 0 ∷ 0 ∷ 0 ∷ 1 ∷ []) ∷ (65 ∷ 2 ∷ 1 ∷ 4 ∷ 1 ∷ 0 ∷ []) ∷ (83 ∷ 2 ∷ 0 ∷ 0 ∷ 0 ∷ 0 ∷ []) ∷ (66 ∷ 0 ∷ 0 ∷ 0 ∷ 0 ∷ []) ∷ (66 ∷ 0 ∷ 0 ∷ 0 ∷ 0 ∷ 0 ∷ 0 ∷ []) ∷ [])
-    ≡ row.Broken ∷ row.Broken ∷ row.Broken ∷ row.Broken ∷ row.Broken ∷ row.Broken ∷ []
+    ≡ None ∷ None ∷ None ∷ None ∷ None ∷ None ∷ []
 unfolding decode_row encode_row row_of_words row_of type_of same_words
 broken = refl
 
 indices : map decode_index ((5 ∷ 0 ∷ []) ∷ (5 ∷ 1 ∷ []) ∷ (5 ∷ 2 ∷ []) ∷ (5 ∷ []) ∷ [])
-    ≡ index.Index (Known 5) ∷ index.Index (Unknown 5) ∷ index.Broken ∷ index.Broken ∷ []
+    ≡ Some (Known 5) ∷ Some (Unknown 5) ∷ None ∷ None ∷ []
 unfolding decode_index
 indices = refl
 

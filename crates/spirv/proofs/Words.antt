@@ -1,17 +1,27 @@
 -- Laws of words stored in a list, and of lists of words that are the same. Assumes nothing.
-use Prim.Native.Nat.{ℕ, suc, ◌+◌, ◌-◌, ◌≤◌, ◌<◌}
+use Prim.Native.Nat.{min, ℕ, suc, ◌+◌, ◌-◌, ◌≤◌, ◌<◌}
 use native.Mathlib.Omega.{arith}
 use native.Mathlib.Numerals.{add-one}
 use mathlib.Core.Path.{◌≡◌, refl, sym, ap}
 use mathlib.Core.Bool.{Bool, true, false, ◌&&◌}
-use mathlib.Core.List.{List, [], ◌∷◌}
-use borrow.Author.Tests.{eq-eqb, ne_eqb, eqb-true}
+use mathlib.Core.List.{List, [], ◌∷◌, append_assoc}
+use borrow.Author.Tests.{eq-eqb, eqb-true}
 use lib.Dec.{eqb}
+use lib.Pointwise.{pointwise}
 use lib.ListN.{length, get_or, take, drop, set, length-set, length-take, length-drop}
-use lib.Seq.{sets, take-suc, length-take-le, drop-cons}
+use lib.Seq.{sets, sets-eq, take-suc, take_all, length-take-le, drop-drop}
+use borrow.Rule.Slice.PartMut.{put_mid}
+use mathlib.Core.Logic.{◌⊎◌, inl, inr}
+use Rattle.std.proofs.lemmas.Bool.{cases_lt}
 use Rattle.arith.proofs.Stores.{sets_append, sets_past}
 use Rattle.arith.proofs.Results.{first_true, second_true}
-use Rattle.spirv.specs.Rows.{same_words}
+use mir.Val.{bool_byte}
+use Rattle.spirv.specs.Rows.{same_words, flag_word}
+
+-- as `u32::from` gives it
+pub flag_word-is : (b : Bool) → bool_byte b ≡ flag_word b
+flag_word-is false = refl
+flag_word-is true = refl
 
 -- ---- stores
 
@@ -26,7 +36,28 @@ rest_out l at [] i h k = let e : i ≡ 0 = omega arith in rw e
 rest_out l at (v ∷ w) Prim.Native.Nat.zero h k = sym (sets_past l at (v ∷ w) (omega arith))
 rest_out l at (v ∷ w) (suc i) h k = rest_out (set l at v) (suc at) w i (omega arith) (rw (length-set l at v) (omega arith))
 
+-- as many words as there is room for, in the place of those that stood there
+pub part_put : (l : List ℕ) (at n k : ℕ) (w : List ℕ) → k ≡ n → n ≡ min (length w) (length l - at) → at < length l → put_mid at k l (take n w) ≡ sets l at w
+part_put l at n k w e m h =
+    let t : length (take n w) ≡ n = length-take-le n w (omega arith) in
+    rw (e, drop-drop n at l, ← whole) (rw (sets-eq (take n w) l at (omega arith), t, append_assoc))
+  where
+    go : (n < length w) ⊎ (length w ≤ n) → sets l at (take n w) ≡ sets l at w
+    go (inl s) = rest_out l at w n (omega arith) (omega arith)
+    go (inr s) = rw (take_all n w s)
+
+    whole : sets l at (take n w) ≡ sets l at w
+    whole = go (cases_lt n (length w))
+
 -- ---- the same words
+
+-- as `==` compares
+pub same_pointwise : (a b : List ℕ) → pointwise eqb a b ≡ same_words a b
+unfolding same_words
+same_pointwise [] [] = refl
+same_pointwise [] (y ∷ b) = refl
+same_pointwise (x ∷ a) [] = refl
+same_pointwise (x ∷ a) (y ∷ b) = ap (λ t. eqb x y && t) (same_pointwise a b)
 
 pub same_is : (a b : List ℕ) → same_words a b ≡ true → a ≡ b
 unfolding same_words
@@ -54,26 +85,16 @@ other_length (x ∷ a) (y ∷ b) h = go (eqb x y) (other_length a b (λ e. h (ap
     go true e = e
     go false e = refl
 
--- the same so far
-module _ (a b : List ℕ) (i : ℕ) (h : i < length a) (k : i < length b) where
-  pub same_next : get_or a i 0 ≡ get_or b i 0 → same_words (drop i a) (drop i b) ≡ same_words (drop (i + 1) a) (drop (i + 1) b)
-  unfolding same_words
-  same_next e = rw (add-one, drop-cons a i 0, drop-cons b i 0, eq-eqb (get_or a i 0) (get_or b i 0) e)
-
-  pub same_stops : (get_or a i 0 ≡ get_or b i 0 → ⊥) → same_words (drop i a) (drop i b) ≡ false
-  unfolding same_words
-  same_stops e = rw (drop-cons a i 0, drop-cons b i 0, ne_eqb (get_or a i 0) (get_or b i 0) e)
-
-pub same_ends : (a b : List ℕ) (i : ℕ) → length a ≤ i → length a ≡ length b → same_words (drop i a) (drop i b) ≡ true
-unfolding same_words
-same_ends a b i h k = let p = lib.ListN.drop_of_length-le a h in let j : length b ≤ i = omega arith in let q = lib.ListN.drop_of_length-le b j in rw (p, q)
-
 -- a part that runs past the end has another length
 pub cut_short : (t : List ℕ) (at n : ℕ) → length t < at + n → 1 ≤ n → length (take n (drop at t)) ≡ n → ⊥
 cut_short t at n h p e = go (length-take n (drop at t)) (length-drop at t)
   where
     go : length (take n (drop at t)) ≡ Prim.Native.Nat.min n (length (drop at t)) → length (drop at t) ≡ length t - at → ⊥
     go q r = omega arith
+
+pub not_there : (t : List ℕ) (at n : ℕ) → (at + n < at) ⊎ (length t < at + n) → length t < at + n
+not_there t at n (inl h) = omega arith
+not_there t at n (inr h) = h
 
 -- a part from `at` up to `at + n`
 pub cut_two : (t : List ℕ) (at n : ℕ) → take (at + n - at) (drop at t) ≡ take n (drop at t)

@@ -1,5 +1,5 @@
 -- The words that hold a declared type and an index: a row of six, the first of which is the letter of the type's line, and two for an index.
-use Rattle.std.specs.Prelude.{ℕ, ◌*◌, ◌≡◌, Bool, true, false, cond, ◌&&◌, List, [], ◌∷◌, eqb, get_or, take, drop}
+use Rattle.std.specs.Prelude.{ℕ, ◌*◌, ◌≡◌, Bool, true, false, cond, ◌&&◌, List, [], ◌∷◌, Option, Some, None, eqb, get_or, take, drop}
 use Prim.Native.Char.{code}
 use Rattle.spirv.specs.declared.Length.{Length}
 use Rattle.spirv.specs.declared.Length.TheVariants.{Fixed, Specialization}
@@ -8,12 +8,8 @@ use Rattle.spirv.specs.declared.Stride.TheVariants.{Decorated, Undecorated}
 use Rattle.spirv.specs.declared.SpvType.{SpvType}
 use Rattle.spirv.specs.declared.SpvType.TheVariants as spv
 use Rattle.spirv.specs.declared.DeclRow.{DeclRow}
-use Rattle.spirv.specs.declared.RowReading.{RowReading}
-use Rattle.spirv.specs.declared.RowReading.TheVariants as row
 use Rattle.spirv.specs.declared.Index.{Index}
 use Rattle.spirv.specs.declared.Index.TheVariants.{Known, Unknown}
-use Rattle.spirv.specs.declared.IndexReading.{IndexReading}
-use Rattle.spirv.specs.declared.IndexReading.TheVariants as index
 use Rattle.spirv.specs.Decl.{is_struct}
 
 -- two lists of words are the same
@@ -101,10 +97,10 @@ unfoldable pub row_of_words : List ℕ → DeclRow
 row_of_words ws = row_of (get_or ws 0 0) (get_or ws 1 0) (get_or ws 2 0) (get_or ws 3 0) (get_or ws 4 0) (get_or ws 5 0)
 
 -- the row that words hold is the one whose words they are
-unfoldable pub decode_row : List ℕ → RowReading
-decode_row ws = cond (same_words (encode_row (row_of_words ws)) ws) (row.Row (row_of_words ws)) row.Broken
+unfoldable pub decode_row : List ℕ → Option DeclRow
+decode_row ws = cond (same_words (encode_row (row_of_words ws)) ws) (Some (row_of_words ws)) None
 
-unfoldable pub row_at : List ℕ → ℕ → RowReading
+unfoldable pub row_at : List ℕ → ℕ → Option DeclRow
 row_at table i = decode_row (take 6 (drop (6 * i) table))
 
 -- a row of a declaration: what is said of structs is 0 for other types
@@ -113,8 +109,8 @@ pub record OfDeclaration (r : DeclRow) : Type 0 where
 
 -- each such row is read back from its words, and no other words are read as a row
 pub record RowsReadBack : Type 0 where
-  pub back : (r : DeclRow) → OfDeclaration r → decode_row (encode_row r) ≡ row.Row r
-  pub only : (ws : List ℕ) (r : DeclRow) → decode_row ws ≡ row.Row r → ws ≡ encode_row r
+  pub back : (r : DeclRow) → OfDeclaration r → decode_row (encode_row r) ≡ Some r
+  pub only : (ws : List ℕ) (r : DeclRow) → decode_row ws ≡ Some r → ws ≡ encode_row r
 
 -- ---- an index
 
@@ -122,18 +118,18 @@ unfoldable pub encode_index : Index → List ℕ
 encode_index (Known w) = w ∷ 0 ∷ []
 encode_index (Unknown v) = v ∷ 1 ∷ []
 
-abbrev pub index_of : (w kind : ℕ) → IndexReading
-index_of w kind = cond (eqb kind 0) (index.Index (Known w)) (cond (eqb kind 1) (index.Index (Unknown w)) index.Broken)
+abbrev pub index_of : (w kind : ℕ) → Option Index
+index_of w kind = cond (eqb kind 0) (Some (Known w)) (cond (eqb kind 1) (Some (Unknown w)) None)
 
-unfoldable pub decode_index : List ℕ → IndexReading
-decode_index [] = index.Broken
-decode_index (w ∷ []) = index.Broken
+unfoldable pub decode_index : List ℕ → Option Index
+decode_index [] = None
+decode_index (w ∷ []) = None
 decode_index (w ∷ kind ∷ []) = index_of w kind
-decode_index (w ∷ kind ∷ x ∷ xs) = index.Broken
+decode_index (w ∷ kind ∷ x ∷ xs) = None
 
-unfoldable pub index_at : List ℕ → ℕ → IndexReading
+unfoldable pub index_at : List ℕ → ℕ → Option Index
 index_at list i = decode_index (take 2 (drop (2 * i) list))
 
 pub record IndicesReadBack : Type 0 where
-  pub back : (i : Index) → decode_index (encode_index i) ≡ index.Index i
-  pub only : (ws : List ℕ) (i : Index) → decode_index ws ≡ index.Index i → ws ≡ encode_index i
+  pub back : (i : Index) → decode_index (encode_index i) ≡ Some i
+  pub only : (ws : List ℕ) (i : Index) → decode_index ws ≡ Some i → ws ≡ encode_index i

@@ -1,17 +1,20 @@
 -- `spirv::decode_index` meets its contract.
-use borrow.Author.Tests.{eq-eqb, ne_eqb}
-use mathlib.Core.Path.{sym}
+use Rattle.std.proofs.Common.{sym, rules, tests}
+use native.Mathlib.Omega.{arith}
 use Rattle.spirv.proofs.Rows.{index_short, index_long}
 use Rattle.spirv.proofs.decode_index.Goals as goal
 
-pub returns-then-words-ne2 : goal.returns-then-words-ne2
-returns-then-words-ne2 c = sym (index_short _ c.if-words-ne2.true)
+pub returns-in_default : goal.returns-in_default
+returns-in_default c = sym (index_short _ (λ e. omega (arith, e, c.in_default.len_below)))
 
-pub returns-then-kind-eq0 : goal.returns-then-kind-eq0
-returns-then-kind-eq0 c = rw (index_long _ c.if-words-ne2.false, eq-eqb _ _ c.if-kind-eq0.true)
+pub returns-in_default-2 : goal.returns-in_default-2
+returns-in_default-2 c = sym (index_short _ (λ e. omega (arith, e, c.in_default.len_at_least)))
 
-pub returns-then-kind-eq1 : goal.returns-then-kind-eq1
-returns-then-kind-eq1 c = rw (index_long _ c.if-words-ne2.false, ne_eqb _ _ c.if-kind-eq0.false, eq-eqb _ _ c.if-kind-eq1.true)
+pub returns-in-0 : goal.returns-in-0
+returns-in-0 c = rw (index_long c.args.words.now (omega arith), c.in-0.is)
 
-pub returns : goal.returns
-returns c = rw (index_long _ c.if-words-ne2.false, ne_eqb _ _ c.if-kind-eq0.false, ne_eqb _ _ c.if-kind-eq1.false)
+pub returns-in-1 : goal.returns-in-1
+returns-in-1 c = rw (index_long c.args.words.now (omega arith), c.in-1.is)
+
+pub returns-in_default-kind : goal.returns-in_default-kind
+returns-in_default-kind c = rw (index_long c.args.words.now (omega arith)) (search (rules, tests))

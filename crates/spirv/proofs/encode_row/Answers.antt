@@ -1,5 +1,6 @@
 -- `spirv::encode_row` meets its contract.
 use Rattle.spirv.specs.Rows.{encode_row}
+use Rattle.spirv.proofs.Words.{flag_word-is}
 use Rattle.spirv.proofs.encode_row.Goals as goal
 
 pub returns-in-Bool : goal.returns-in-Bool
@@ -24,15 +25,15 @@ returns-in-Matrix c = rw c.in-Matrix.is
 
 pub returns-in-Array : goal.returns-in-Array
 unfolding encode_row
-returns-in-Array c = rw (c.stride_value.ensures, c.stride_kind.ensures, c.length_value.ensures, c.length_kind.ensures, c.in-Array.is)
+returns-in-Array c = rw (c.length_words-length.ensures, c.stride_words-kind.ensures, c.in-Array.is)
 
 pub returns-in-RuntimeArray : goal.returns-in-RuntimeArray
 unfolding encode_row
-returns-in-RuntimeArray c = rw (c.stride_value-in-RuntimeArray.ensures, c.stride_kind-in-RuntimeArray.ensures, c.in-RuntimeArray.is)
+returns-in-RuntimeArray c = rw (c.stride_words-kind-in-RuntimeArray.ensures, c.in-RuntimeArray.is)
 
 pub returns-in-Struct : goal.returns-in-Struct
 unfolding encode_row
-returns-in-Struct c = rw (c.flag_word.ensures, c.in-Struct.is)
+returns-in-Struct c = rw (c.from.ensures, flag_word-is c.in-Struct.block, c.in-Struct.is)
 
 pub returns-in-Pointer : goal.returns-in-Pointer
 unfolding encode_row

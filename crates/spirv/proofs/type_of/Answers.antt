@@ -1,5 +1,5 @@
 -- `spirv::type_of` meets its contract.
-use borrow.Author.Tests.{ne_eqb}
+use Rattle.std.proofs.Common.{rules, tests}
 use Rattle.spirv.specs.Rows.{type_of}
 use Rattle.spirv.proofs.type_of.Goals as goal
 
@@ -45,4 +45,4 @@ returns-in-79 c = rw c.in-79.is
 
 pub returns-in_default : goal.returns-in_default
 unfolding type_of
-returns-in_default c = let r = c.in_default.in_default-own.rest in rw (ne_eqb _ 66 r.0.0.0.0.0.0.0.0.0.1, ne_eqb _ 73 r.0.0.0.0.0.0.0.0.1, ne_eqb _ 70 r.0.0.0.0.0.0.0.1, ne_eqb _ 86 r.0.0.0.0.0.0.1, ne_eqb _ 77 r.0.0.0.0.0.1, ne_eqb _ 65 r.0.0.0.0.1, ne_eqb _ 82 r.0.0.0.1, ne_eqb _ 83 r.0.0.1, ne_eqb _ 80 r.0.1, ne_eqb _ 79 r.1)
+returns-in_default c = search (rules, tests)

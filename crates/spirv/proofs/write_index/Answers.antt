@@ -2,4 +2,4 @@
 use Rattle.spirv.proofs.write_index.Goals as goal
 
 pub returns : goal.returns
-returns c = rw (← c.encode_index-words.ensures) c.put_words.ensures
+returns c = rw (← c.encode_index.ensures) c.put_words.ensures

@@ -2,4 +2,4 @@
 use Rattle.spirv.proofs.write_row.Goals as goal
 
 pub returns : goal.returns
-returns c = rw (← c.encode_row-words.ensures) c.put_words.ensures
+returns c = rw (← c.encode_row.ensures) c.put_words.ensures
