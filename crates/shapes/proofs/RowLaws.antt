@@ -6,7 +6,7 @@ use mathlib.Core.Bool.{Bool, true, false, cond}
 use mathlib.Core.List.{List, [], ◌∷◌, ◌++◌, append_assoc, append-nil}
 use native.Mathlib.Omega.{arith}
 use lib.Dec.{ltb}
-use lib.ListN.{length, get_or, drop, length-append, length-drop, get_or-eq_default}
+use lib.ListN.{length, get_or, take, drop, length-append, length-take, length-drop, get_or-eq_default}
 use lib.Seq.{sets, sets-eq, take_at, drop_at, drop-drop}
 use borrow.Author.Tests.{ltb-true, ltb-false}
 use Rattle.arith.specs.Refusals.{misread}
@@ -15,7 +15,14 @@ use Rattle.shapes.specs.declared.TypeLayout.{TypeLayout}
 use Rattle.shapes.specs.Rows.{row_at, answer_at, flat}
 use Rattle.arith.specs.InCode.{OrRefusal, err}
 use Rattle.spirv.proofs.Rows.{part_stored}
-use Rattle.shapes.proofs.ReadsBack.{encode_length, decode_encode}
+use Rattle.shapes.proofs.ReadsBack.{encode_length, decode_encode, not_ten}
+
+-- a row that the table lacks is refused with 1
+pub row_missing : (table : List ℕ) (i : ℕ) → length table < 10 * i + 10 → row_at table i ≡ err misread
+unfolding row_at
+row_missing table i h =
+    let rest = drop (10 * i) table in
+    not_ten (take 10 rest) (λ e. omega (arith, length-take 10 rest, length-drop (10 * i) table))
 
 -- a row that is written is read
 pub row_written : (table : List ℕ) (i : ℕ) (a : OrRefusal TypeLayout) → 10 * i + 10 ≤ length table → row_at (sets table (10 * i) (encode a)) i ≡ a

@@ -8,7 +8,7 @@ use crate::{TypeLayout, words};
 use arith::refusal::Refusal;
 
 // Row i of a table; one that the table lacks is refused with 1.
-#[tactic(auto, unfolding(crate::specs::Rows::row_at))]
+#[tactic(auto, using(crate::proofs::RowLaws::row_missing), unfolding(crate::specs::Rows::row_at))]
 pub fn read_row(table: &[u32], i: u32) -> Result<TypeLayout, Refusal>
     ensures { result ≡ row_at table.now i }
 {
