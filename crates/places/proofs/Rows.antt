@@ -9,11 +9,10 @@ use Rattle.shapes.specs.declared.Components.TheVariants.{Scalar, Elements, Field
 use Rattle.shapes.specs.declared.Handle.TheVariants as handle
 use Rattle.shapes.specs.declared.TypeLayout.{TypeLayout}
 use Rattle.shapes.specs.declared.TypeLayout.TheVariants as layout
-use Rattle.shapes.specs.declared.Answer.TheVariants.{Laid}
+use Rattle.std.specs.Prelude.{Ok}
 use Rattle.shapes.proofs.ReadsBack.{decode_encode}
 use Rattle.places.proofs.Listed.{one_by_one}
 use Rattle.places.specs.declared.Place.TheVariants.{Memory, Buffer}
-use Rattle.places.specs.declared.Found.TheVariants.{At}
 use Rattle.places.specs.Places.{place_of, found_of, memory_with, Made}
 
 module _ (ws : List ℕ) (h : length ws ≡ 10) (none : get_or ws 1 0 ≡ 0) where
@@ -42,14 +41,14 @@ module _ (ws : List ℕ) (h : length ws ≡ 10) (none : get_or ws 1 0 ≡ 0) whe
       ∙ ap (λ (x : ℕ). get_or ws 0 0 ∷ 0 ∷ 1 ∷ numbers (0 ∷ 0 ∷ x ∷ [])) c
 
 -- what the words of a layout are read as
-read : (ws : List ℕ) (l : TypeLayout) → ws ≡ encode (Laid l) → found_of (decode ws) ≡ At (place_of l)
-read ws l e = ap (λ (x : List ℕ). found_of (decode x)) e ∙ ap found_of (decode_encode (Laid l))
+read : (ws : List ℕ) (l : TypeLayout) → ws ≡ encode (Ok l) → found_of (decode ws) ≡ Ok (place_of l)
+read ws l e = ap (λ (x : List ℕ). found_of (decode x)) e ∙ ap found_of (decode_encode (Ok l))
 
 module _ (ws : List ℕ) (c : Components) (made : Made ws c) where
-  pub of_memory : get_or ws 0 0 ≡ 3 → found_of (decode ws) ≡ At (Memory c)
+  pub of_memory : get_or ws 0 0 ≡ 3 → found_of (decode ws) ≡ Ok (Memory c)
   unfolding encode
   of_memory tag = read ws (layout.Concrete (memory_with ws c)) (made ∙ ap (λ (x : ℕ). memory_words x 0 (memory_with ws c)) tag)
 
-  pub of_buffer : get_or ws 0 0 ≡ 1 → found_of (decode ws) ≡ At (Buffer c)
+  pub of_buffer : get_or ws 0 0 ≡ 1 → found_of (decode ws) ≡ Ok (Buffer c)
   unfolding encode handle_words
   of_buffer tag = read ws (layout.Handle (handle.Buffer (memory_with ws c))) (made ∙ ap (λ (x : ℕ). memory_words x 0 (memory_with ws c)) tag)

@@ -1,19 +1,14 @@
 -- What the walk of a chain needs of a layout: a place. Sizes, alignments and the length of a handle array play no part in it.
-use Rattle.std.specs.Prelude.{ℕ, ◌≡◌, List, get_or}
+use Rattle.std.specs.Prelude.{ℕ, ◌≡◌, List, get_or, Option, Some, None, Ok, Err}
+use Rattle.arith.specs.InCode.{OrRefusal}
 use Rattle.shapes.specs.Words.{memory_words}
 use Rattle.shapes.specs.declared.Components.{Components}
 use Rattle.shapes.specs.declared.MemTypeLayout.{MemTypeLayout}
 use Rattle.shapes.specs.declared.Handle.TheVariants as handle
 use Rattle.shapes.specs.declared.TypeLayout.{TypeLayout}
 use Rattle.shapes.specs.declared.TypeLayout.TheVariants as layout
-use Rattle.shapes.specs.declared.Answer.{Answer}
-use Rattle.shapes.specs.declared.Answer.TheVariants as answer
 use Rattle.places.specs.declared.Place.{Place}
 use Rattle.places.specs.declared.Place.TheVariants.{Memory, Buffer, Buffers, Opaque, Opaques}
-use Rattle.places.specs.declared.Found.{Found}
-use Rattle.places.specs.declared.Found.TheVariants.{At, Refused}
-use Rattle.places.specs.declared.Parts.{Parts}
-use Rattle.places.specs.declared.Parts.TheVariants.{Are, Other}
 
 abbrev pub place_of : TypeLayout → Place
 place_of (layout.Handle handle.Opaque) = Opaque
@@ -22,9 +17,9 @@ place_of (layout.HandleArray handle.Opaque n) = Opaques
 place_of (layout.HandleArray (handle.Buffer m) n) = Buffers m.components
 place_of (layout.Concrete m) = Memory m.components
 
-abbrev pub found_of : Answer → Found
-found_of (answer.Laid l) = At (place_of l)
-found_of (answer.Refused e) = Refused e
+abbrev pub found_of : OrRefusal TypeLayout → OrRefusal Place
+found_of (Ok l) = Ok (place_of l)
+found_of (Err e) = Err e
 
 -- ---- the layout that a place stands for, its sizes left 0
 
@@ -59,6 +54,6 @@ abbrev pub Made : List ℕ → Components → Type 0
 Made ws c = ws ≡ memory_words (get_or ws 0 0) 0 (memory_with ws c)
 
 -- parts that are named are those that the row is made of
-abbrev pub Named : List ℕ → Parts → Type 0
-Named ws (Are c) = Made ws c
-Named ws Other = Unit {0}
+abbrev pub Named : List ℕ → Option Components → Type 0
+Named ws (Some c) = Made ws c
+Named ws None = Unit {0}

@@ -6,10 +6,11 @@ ghost use Rattle.shapes.specs.Words.{decode};
 ghost use Rattle.shapes.specs.Rows.{answer_at};
 ghost use Rattle.places.specs.Places.{place_of, found_of, Parted, Made, Named};
 
-use shapes::{Answer, Components, Handle, TypeLayout};
+use arith::refusal::Refusal;
+use shapes::{Components, Handle, TypeLayout};
 
 // Memory by its parts, a buffer or an array of buffers by those of its contents, an opaque handle, an array of these.
-#[derive(Clone, Copy)]
+#[derive(Clone, Copy, Debug, PartialEq, Eq, Hash)]
 pub enum Place {
     Memory(Components),
     Buffer(Components),
@@ -18,111 +19,68 @@ pub enum Place {
     Opaques,
 }
 
-// The place that a type is, or the refusal of its layout.
-#[derive(Clone, Copy)]
-pub enum Found {
-    At(Place),
-    Refused(u32),
-}
-
 pub fn place_of(l: TypeLayout) -> Place
     ensures { result ≡ place_of l }
 {
     match l {
-        TypeLayout::Handle(h) => match h {
-            Handle::Opaque => Place::Opaque,
-            Handle::Buffer(m) => {
-                let c = m.components;
-                Place::Buffer(c)
-            }
-        },
-        TypeLayout::HandleArray(h, _) => match h {
-            Handle::Opaque => Place::Opaques,
-            Handle::Buffer(m) => {
-                let c = m.components;
-                Place::Buffers(c)
-            }
-        },
-        TypeLayout::Concrete(m) => {
-            let c = m.components;
-            Place::Memory(c)
-        }
+        TypeLayout::Handle(Handle::Opaque) => Place::Opaque,
+        TypeLayout::Handle(Handle::Buffer(m)) => Place::Buffer(m.components),
+        TypeLayout::HandleArray(Handle::Opaque, _) => Place::Opaques,
+        TypeLayout::HandleArray(Handle::Buffer(m), _) => Place::Buffers(m.components),
+        TypeLayout::Concrete(m) => Place::Memory(m.components),
     }
 }
 
-// The place of what a type answers.
-pub fn found_of(a: Answer) -> Found
+// The place of what a type answers, or the refusal of its layout.
+pub fn found_of(a: Result<TypeLayout, Refusal>) -> Result<Place, Refusal>
     ensures { result ≡ found_of a }
 {
-    match a {
-        Answer::Refused(e) => Found::Refused(e),
-        Answer::Laid(l) => Found::At(place_of(l)),
-    }
+    a.map(place_of)
 }
 
 // The place that a row's words hold, by its layout.
-fn by_layout(ws: &[u32]) -> Found
+fn by_layout(ws: &[u32]) -> Result<Place, Refusal>
     ensures { result ≡ found_of (decode ws.now) }
 {
     found_of(shapes::words::answer(ws))
 }
 
-// The parts that a row names by three words, or that its layout must tell.
-#[derive(Clone, Copy)]
-pub enum Parts {
-    Are(Components),
-    Other,
-}
-
-// A row of memory or a buffer is of kind 1, 2 or 3, by what it is made of.
-fn of_kind(ws: &[u32], kind: u32) -> Parts
+// The parts that a row of memory or a buffer names by three words, of kind 1, 2 or 3 by what it is made of; with none its layout must tell.
+#[tactic(auto, using(crate::proofs::Rows::of_elements_lem, crate::proofs::Rows::of_fields, crate::proofs::Rows::of_scalar))]
+fn of_kind(ws: &[u32], kind: u32) -> Option<Components>
     requires { (length ws.now ≡ 10) × Parted ws.now kind }
     ensures { Named ws.now result }
 {
-    if kind == 2 {
-        return Parts::Are(Components::Elements {
+    match kind {
+        1 if ws[7..] == [0, 0, 0] => Some(Components::Scalar),
+        2 => Some(Components::Elements {
             stride: ws[7],
             elem: ws[8],
             fixed_len: ws[9],
-        });
-    }
-    if ws[9] != 0 {
-        return Parts::Other;
-    }
-    if kind == 3 {
-        return Parts::Are(Components::Fields {
+        }),
+        3 if ws[9] == 0 => Some(Components::Fields {
             start: ws[7],
             count: ws[8],
-        });
+        }),
+        _ => None,
     }
-    if kind != 1 {
-        return Parts::Other;
-    }
-    if ws[7] != 0 {
-        return Parts::Other;
-    }
-    if ws[8] != 0 {
-        return Parts::Other;
-    }
-    Parts::Are(Components::Scalar)
 }
 
 // The place that a row's words hold, which are made of these parts: 3 is memory, 1 a buffer.
-fn of_tag(ws: &[u32], tag: u32, c: Components) -> Found
+#[tactic(auto, using(crate::proofs::Rows::of_memory, crate::proofs::Rows::of_buffer))]
+fn of_tag(ws: &[u32], tag: u32, c: Components) -> Result<Place, Refusal>
     requires { Made ws.now c × (get_or ws.now 0 0 ≡ tag) }
     ensures { result ≡ found_of (decode ws.now) }
 {
-    if tag == 3 {
-        return Found::At(Place::Memory(c));
+    match tag {
+        3 => Ok(Place::Memory(c)),
+        1 => Ok(Place::Buffer(c)),
+        _ => by_layout(ws),
     }
-    if tag == 1 {
-        return Found::At(Place::Buffer(c));
-    }
-    by_layout(ws)
 }
 
 // The place that a row's words hold, memory and buffers by their parts alone.
-fn by_parts(ws: &[u32]) -> Found
+fn by_parts(ws: &[u32]) -> Result<Place, Refusal>
     requires { length ws.now ≡ 10 }
     ensures { result ≡ found_of (decode ws.now) }
 {
@@ -130,21 +88,22 @@ fn by_parts(ws: &[u32]) -> Found
         return by_layout(ws);
     }
     match of_kind(ws, ws[2]) {
-        Parts::Are(c) => of_tag(ws, ws[0], c),
-        Parts::Other => by_layout(ws),
+        Some(c) => of_tag(ws, ws[0], c),
+        None => by_layout(ws),
     }
 }
 
 // The place of type t, of the first n types.
-pub fn place_at(layouts: &[u32], n: u32, t: u32) -> Found
+#[tactic(auto, using(shapes::proofs::RowLaws::row_missing), unfolding(shapes::specs::Rows::answer_at, shapes::specs::Rows::row_at))]
+pub fn place_at(layouts: &[u32], n: u32, t: u32) -> Result<Place, Refusal>
     ensures { result ≡ found_of (answer_at layouts.now n t) }
 {
     if n <= t {
-        return Found::Refused(1);
+        return Err(Refusal::MISREAD);
     }
     let at = 10 * t as usize;
-    if layouts.len() < at + 10 {
-        return Found::Refused(1);
-    }
-    by_parts(&layouts[at..at + 10])
+    let Some(ws) = layouts.get(at..at + 10) else {
+        return Err(Refusal::MISREAD);
+    };
+    by_parts(ws)
 }
