@@ -9,7 +9,8 @@ use borrow.Author.Tests.{lt-ltb, le-ltb}
 use Rattle.arith.specs.Refusals.{ok, refused, ◌>>=◌, ◌>>◌, refuse◌when◌, in_room, short_list}
 use Rattle.text.specs.Printed.{Printed}
 use Rattle.text.specs.Whole.{Whole, held, written, answered}
-use Rattle.text.specs.declared.Answer.{Answer}
+use Rattle.arith.specs.InCode.{err}
+use Rattle.std.specs.Prelude.{Ok}
 use Rattle.text.proofs.Laws.{fitted, nothing}
 
 pub held_too_long : (room : ℕ) (text : List ℕ) → room < length text → held room (ok text) ≡ refused short_list
@@ -21,20 +22,20 @@ unfolding in_room ◌>>=◌ ◌>>◌ refuse◌when◌
 held_whole room text h = ap (λ (t : Bool). refuse short_list when t >> ok text) (le-ltb room (length text) h)
 
 -- a refusal leaves the list as it was
-pub refused_whole : (n : ℕ) (old : List ℕ) → Whole (refused n) old (Answer.Refused n) old
+pub refused_whole : (n : ℕ) (old : List ℕ) → Whole (refused n) old (err n) old
 unfolding in_room ◌>>=◌ written answered
 refused_whole n old = record { says = refl; holds = refl }
 
 -- the text was measured first, on no room: `m`, which has nothing, stands in front of the list from then on
 module _ (text : List ℕ) {old m : List ℕ} {n : ℕ} (small : length old < 9223372036854775808) (measured : Printed text [] 0 n m) where
-  pub too_long : length (m ++ old) < n → Whole (ok text) old (Answer.Refused short_list) (m ++ old)
+  pub too_long : length (m ++ old) < n → Whole (ok text) old (err short_list) (m ++ old)
   unfolding written answered
   too_long g =
       let h : length old < n = rw (nothing text measured) at g in
       let e = held_too_long (length old) text (omega (arith, measured.place)) in
       record { says = rw e; holds = rw (nothing text measured, e) }
 
-  pub all_written : {p : ℕ} {new : List ℕ} → n ≤ length (m ++ old) → Printed text (m ++ old) 0 p new → Whole (ok text) old (Answer.Bytes n) new
+  pub all_written : {p : ℕ} {new : List ℕ} → n ≤ length (m ++ old) → Printed text (m ++ old) 0 p new → Whole (ok text) old (Ok n) new
   unfolding written answered
   all_written {p} {new} g y =
       let h : n ≤ length old = rw (nothing text measured) at g in

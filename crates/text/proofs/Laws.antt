@@ -7,7 +7,7 @@ use mathlib.Core.Bool.{Bool, true, false}
 use mathlib.Core.List.{List, [], ◌∷◌, ◌++◌}
 use lib.Dec.{leb}
 use lib.ListN.{length, take, drop, get_or, length-append}
-use lib.Seq.{sets, sets-eq, set_out, length-sets, take-suc, slice, take_at, drop_at, length-take-le}
+use lib.Seq.{sets, sets-eq, length-sets, take-suc, slice, take_at, drop_at, length-take-le}
 use borrow.Author.Tests.{leb-true, leb-false}
 use Rattle.arith.proofs.Stores.{sets_append, sets_past}
 use Rattle.text.specs.Printed.{Printed, after}
@@ -34,10 +34,6 @@ module _ (a b : List ℕ) {o m n : List ℕ} {at p q : ℕ} (small : length o < 
 -- no length changes
 pub kept : (text : List ℕ) {o n : List ℕ} {at p : ℕ} → Printed text o at p n → length n ≡ length o
 kept text {o} {n} {at} x = ap length x.bytes ∙ length-sets o at text
-
--- one byte past the end
-pub past_end : (b : ℕ) {o : List ℕ} {at p : ℕ} → length o ≤ at → p ≡ after at (b ∷ []) → Printed (b ∷ []) o at p o
-past_end b {o} {at} h e = record { place = e; bytes = sym (set_out o at b h) }
 
 -- a text that fits leaves what stands before it and behind it
 pub fitted : (text : List ℕ) {o n : List ℕ} {at p : ℕ} → Printed text o at p n → at + length text ≤ length o → n ≡ take at o ++ text ++ drop (at + length text) o

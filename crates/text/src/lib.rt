@@ -5,25 +5,14 @@
 ghost use Rattle.std.specs.Prelude.{[], ◌∷◌};
 ghost use Rattle.text.specs.Printed.{Printed};
 
-// What a slice that was lent for a whole text holds now: so many bytes of it, or what it held before, with the number of the refusal.
-#[derive(Clone, Copy)]
-pub enum Answer {
-    Bytes(usize),
-    Refused(u32),
-}
-
 // One byte.
 pub fn byte(out: &mut [u8], at: usize, b: u8) -> usize
     ensures { Printed (b ∷ []) out.old at result out.new }
 {
     if at < out.len() {
         out[at] = b;
-        return at + 1;
     }
-    if at < 0xffff_ffff_ffff_ffff {
-        return at + 1;
-    }
-    at
+    at.saturating_add(1)
 }
 
 // The bytes of s.
@@ -31,10 +20,8 @@ pub fn bytes(out: &mut [u8], at: usize, s: &[u8]) -> usize
     ensures { Printed s.now out.old at result out.new }
 {
     let mut p = at;
-    let mut i = 0;
-    while i < s.len() {
-        p = byte(out, p, s[i]);
-        i += 1;
+    for b in s {
+        p = byte(out, p, *b);
     }
     p
 }
