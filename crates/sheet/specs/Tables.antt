@@ -1,10 +1,9 @@
 -- The tables of a sheet: lent lists of 32-bit words. Each list is the words of the sheet, followed by what it held before.
-use Rattle.std.specs.Prelude.{ℕ, ◌+◌, ◌*◌, ◌≤◌, ◌<◌, ◌≡◌, Bool, ◌&&◌, List, [], ◌∷◌, ◌++◌, leb, length, take, drop}
+use Rattle.std.specs.Prelude.{ℕ, ◌+◌, ◌*◌, ◌≤◌, ◌<◌, ◌≡◌, Bool, ◌&&◌, List, [], ◌∷◌, ◌++◌, leb, length, take, drop, Some}
 use Rattle.std.proofs.Math.Option.{some}
 use Rattle.std.proofs.Math.ListN.{get_elem?}
 use Rattle.arith.specs.Refusals.{Result, ok, ◌>>=◌, ◌>>◌, refuse◌unless◌, short_list}
 use Rattle.spirv.specs.Decl.{Decl}
-use Rattle.spirv.specs.declared.RowReading.TheVariants.{Row}
 use Rattle.spirv.specs.Rows.{flag_word, encode_row, row_at}
 use Rattle.spirv.specs.Reduced.{decl_row, given_words}
 use Rattle.shapes.specs.declared.LayoutConfig.{LayoutConfig}
@@ -73,6 +72,6 @@ pub record Spans (ds : List Decl) : Type 0 where
 
 -- whatever follows the tables of these types, each type is read back: its row, its members and their given offsets
 pub record ReadBack (ds : List Decl) : Type 0 where
-  pub row : (old : List ℕ) (t : ℕ) (d : Decl) → get_elem? ds t ≡ some d → row_at (over (types_words 0 ds) old) t ≡ Row (decl_row (span_start ds t) d)
+  pub row : (old : List ℕ) (t : ℕ) (d : Decl) → get_elem? ds t ≡ some d → row_at (over (types_words 0 ds) old) t ≡ Some (decl_row (span_start ds t) d)
   pub members : (old : List ℕ) (t : ℕ) (d : Decl) → get_elem? ds t ≡ some d → take (length d.members) (drop (span_start ds t) (over (members_words ds) old)) ≡ d.members
   pub given : (old : List ℕ) (t : ℕ) (d : Decl) → get_elem? ds t ≡ some d → take (length d.members) (drop (span_start ds t) (over (offsets_words ds) old)) ≡ given_words d
