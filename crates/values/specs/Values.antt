@@ -1,14 +1,13 @@
 -- Document 01, "The refusals", T: layout, 24. Of a type's row: its layout, and the field offsets that T shows.
-use Rattle.std.specs.Prelude.{ℕ, ◌≡◌, cond, List, [], ltb, length}
+use Rattle.std.specs.Prelude.{ℕ, ◌≡◌, cond, List, [], ltb, length, Ok, Err}
 use Rattle.std.proofs.lemmas.List.Edits.{sets}
+use Rattle.arith.specs.InCode.{OrRefusal, err}
 use Rattle.arith.specs.Refusals.{short_list}
 use Rattle.shapes.specs.declared.Components.{Components}
 use Rattle.shapes.specs.declared.Components.TheVariants.{Scalar, Elements, Fields}
 use Rattle.shapes.specs.declared.Handle.TheVariants.{Opaque, Buffer}
 use Rattle.shapes.specs.declared.TypeLayout.{TypeLayout}
 use Rattle.shapes.specs.declared.TypeLayout.TheVariants.{Handle, HandleArray, Concrete}
-use Rattle.shapes.specs.declared.Answer.{Answer}
-use Rattle.shapes.specs.declared.Answer.TheVariants.{Laid, Refused}
 use Rattle.shapes.specs.Rows.{answer_at}
 use Rattle.shapes.specs.Spans.{span_of}
 
@@ -29,15 +28,15 @@ abbrev pub shown_of : (offsets : List ℕ) → TypeLayout → List ℕ
 shown_of offsets l = shown_in offsets (shown_parts l)
 
 -- 24 where a list of so many places is too short for them
-unfoldable pub held_in : (room : ℕ) (offsets : List ℕ) → Answer → Answer
-held_in room offsets (Laid l) = cond (ltb room (length (shown_of offsets l))) (Refused short_list) (Laid l)
-held_in room offsets (Refused n) = Refused n
+unfoldable pub held_in : (room : ℕ) (offsets : List ℕ) → OrRefusal TypeLayout → OrRefusal TypeLayout
+held_in room offsets (Ok l) = cond (ltb room (length (shown_of offsets l))) (err short_list) (Ok l)
+held_in room offsets (Err e) = Err e
 
 -- a refusal leaves the list
-abbrev pub written : (offsets : List ℕ) → Answer → List ℕ → List ℕ
-written offsets (Laid l) old = sets old 0 (shown_of offsets l)
-written offsets (Refused n) old = old
+abbrev pub written : (offsets : List ℕ) → OrRefusal TypeLayout → List ℕ → List ℕ
+written offsets (Ok l) old = sets old 0 (shown_of offsets l)
+written offsets (Err e) old = old
 
-pub record Into (layouts : List ℕ) (n : ℕ) (offsets : List ℕ) (t : ℕ) (r : Answer) (old new : List ℕ) : Type 0 where
+pub record Into (layouts : List ℕ) (n : ℕ) (offsets : List ℕ) (t : ℕ) (r : OrRefusal TypeLayout) (old new : List ℕ) : Type 0 where
   pub says : r ≡ held_in (length old) offsets (answer_at layouts n t)
   pub list : new ≡ written offsets r old

@@ -4,22 +4,18 @@
 ghost use Rattle.std.specs.Prelude.{◌≡◌};
 ghost use Rattle.values.specs.Values.{shown_parts, shown_in, Into};
 
-use shapes::{Answer, Components, Handle, TypeLayout};
+use arith::refusal::Refusal;
+use shapes::{Components, Handle, TypeLayout};
 
 // The parts of the memory that T shows.
 pub fn shown_parts(l: TypeLayout) -> Components
     ensures { result ≡ shown_parts l }
 {
     match l {
-        TypeLayout::Concrete(m) => m.components,
-        TypeLayout::Handle(h) => match h {
-            Handle::Opaque => Components::Scalar,
-            Handle::Buffer(m) => m.components,
-        },
-        TypeLayout::HandleArray(h, _) => match h {
-            Handle::Opaque => Components::Scalar,
-            Handle::Buffer(m) => m.components,
-        },
+        TypeLayout::Concrete(m)
+        | TypeLayout::Handle(Handle::Buffer(m))
+        | TypeLayout::HandleArray(Handle::Buffer(m), _) => m.components,
+        _ => Components::Scalar,
     }
 }
 
@@ -27,25 +23,27 @@ pub fn shown_offsets(p: Components, offsets: &[u32]) -> &[u32]
     ensures { result.now ≡ shown_in offsets.now p }
 {
     match p {
-        Components::Scalar => shapes::rows::span(offsets, 0, 0),
-        Components::Elements { .. } => shapes::rows::span(offsets, 0, 0),
         Components::Fields { start, count } => shapes::rows::span(offsets, start, count),
+        _ => &[],
     }
 }
 
 // The layout of a type, its field offsets written at the start of the list; or the refusal, 24 where they don't fit, and the list as it was.
-pub fn layout_into(layouts: &[u32], n: u32, offsets: &[u32], t: u32, out: &mut [u32]) -> Answer
+#[tactic(auto, unfolding(crate::specs::Values::held_in))]
+pub fn layout_into(
+    layouts: &[u32],
+    n: u32,
+    offsets: &[u32],
+    t: u32,
+    out: &mut [u32],
+) -> Result<TypeLayout, Refusal>
     ensures { Into layouts.now n offsets.now t result out.old out.new }
 {
-    match shapes::rows::answer_at(layouts, n, t) {
-        Answer::Refused(e) => Answer::Refused(e),
-        Answer::Laid(l) => {
-            let part = shown_offsets(shown_parts(l), offsets);
-            if out.len() < part.len() {
-                return Answer::Refused(24);
-            }
-            spirv::put_words(out, 0, part);
-            Answer::Laid(l)
-        }
+    let l = shapes::rows::answer_at(layouts, n, t)?;
+    let part = shown_offsets(shown_parts(l), offsets);
+    if out.len() < part.len() {
+        return Err(Refusal::SHORT_LIST);
     }
+    spirv::put_words(out, 0, part);
+    Ok(l)
 }
