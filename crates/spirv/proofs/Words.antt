@@ -36,18 +36,19 @@ rest_out l at [] i h k = let e : i ≡ 0 = omega arith in rw e
 rest_out l at (v ∷ w) Prim.Native.Nat.zero h k = sym (sets_past l at (v ∷ w) (omega arith))
 rest_out l at (v ∷ w) (suc i) h k = rest_out (set l at v) (suc at) w i (omega arith) (rw (length-set l at v) (omega arith))
 
--- as many words as there is room for, in the place of those that stood there
-pub part_put : (l : List ℕ) (at n k : ℕ) (w : List ℕ) → k ≡ n → n ≡ min (length w) (length l - at) → at < length l → put_mid at k l (take n w) ≡ sets l at w
-part_put l at n k w e m h =
-    let t : length (take n w) ≡ n = length-take-le n w (omega arith) in
-    rw (e, drop-drop n at l, ← whole) (rw (sets-eq (take n w) l at (omega arith), t, append_assoc))
+-- as many words as there is room for are stored, and so all
+pub room_filled : (l : List ℕ) (at n : ℕ) (w : List ℕ) → n ≡ min (length w) (length l - at) → sets l at (take n w) ≡ sets l at w
+room_filled l at n w m = go (cases_lt n (length w))
   where
     go : (n < length w) ⊎ (length w ≤ n) → sets l at (take n w) ≡ sets l at w
     go (inl s) = rest_out l at w n (omega arith) (omega arith)
     go (inr s) = rw (take_all n w s)
 
-    whole : sets l at (take n w) ≡ sets l at w
-    whole = go (cases_lt n (length w))
+-- in the place of those that stood there
+pub part_put : (l : List ℕ) (at n k : ℕ) (w : List ℕ) → k ≡ n → n ≡ min (length w) (length l - at) → at < length l → put_mid at k l (take n w) ≡ sets l at w
+part_put l at n k w e m h =
+    let t : length (take n w) ≡ n = length-take-le n w (omega arith) in
+    rw (e, drop-drop n at l, ← room_filled l at n w m) (rw (sets-eq (take n w) l at (omega arith), t, append_assoc))
 
 -- ---- the same words
 

@@ -1,16 +1,14 @@
 -- The words that bytes spell, one by one. Assumes nothing.
-use Prim.Native.Nat.{ℕ, zero, suc, ◌+◌, ◌-◌, ◌*◌, ◌/◌, ◌<◌, ◌≤◌}
+use Prim.Native.Nat.{min, ℕ, zero, suc, ◌+◌, ◌*◌, ◌/◌, ◌<◌}
 use native.Mathlib.Omega.{arith}
 use mathlib.Core.Path.{◌≡◌, refl, sym, ap, ◌∙◌}
-use mathlib.Core.Bool.{Bool, true, false}
 use mathlib.Core.List.{List, [], ◌∷◌}
-use lib.Dec.{leb}
 use lib.ListN.{length, get_or, set, take, drop}
-use lib.Seq.{sets, get_or-drop, take_all}
-use borrow.Author.Tests.{leb-true, leb-false, le-leb, lt-leb}
-use Rattle.text.specs.Printed.{Printed}
-use Rattle.spirv.proofs.Words.{one_more}
-use Rattle.words.specs.Little.{little, word_at, words_from, words_of}
+use lib.Seq.{sets, get_or-drop}
+use mir.Syntax.{w32}
+use Rattle.std.specs.Int.{to_le_bytes, from_le_bytes}
+use Rattle.spirv.proofs.Words.{one_more, room_filled}
+use Rattle.words.specs.Little.{little, joined, word_at, words_from, words_of}
 
 pub words_length : (n : ℕ) (s : List ℕ) → length (words_from n s) ≡ n
 unfolding words_from
@@ -39,26 +37,17 @@ next_word l s i h =
     ∙ ap (λ (k : ℕ). set (sets l 0 (take i (words_of s))) k (get_or (words_of s) i 0)) place
     ∙ one_more l 0 (words_of s) i 0 (omega (arith, words_length (length s / 4) s))
 
-pub all_words : (s : List ℕ) (i : ℕ) → length s / 4 ≤ i → take i (words_of s) ≡ words_of s
-all_words s i h = take_all i (words_of s) (omega (arith, words_length (length s / 4) s))
+pub all_words : (l s : List ℕ) (i : ℕ) → i ≡ min (length l) (length s / 4) → sets l 0 (take i (words_of s)) ≡ sets l 0 (words_of s)
+all_words l s i h = room_filled l 0 i (words_of s) (omega (arith, h, words_length (length s / 4) s))
 
--- ---- four bytes, one behind the other
+-- ---- as the library has the bytes of a word
 
-pub four : (l : List ℕ) (at a b c d : ℕ) → set (set (set (set l at a) (at + 1) b) (at + 2) c) (at + 3) d ≡ sets l at (a ∷ b ∷ c ∷ d ∷ [])
-four l at a b c d =
-    let one : at + 1 ≡ suc at = omega arith in
-    let two : at + 2 ≡ suc (suc at) = omega arith in
-    let three : at + 3 ≡ suc (suc (suc at)) = omega arith in
-    rw (one, two, three)
-
-pub fits_four : (at len : ℕ) → 4 ≤ len → leb at (len - 4) ≡ leb (at + 4) len
-fits_four at len h = by_test (leb at (len - 4)) refl
-  where
-    by_test : (b : Bool) → leb at (len - 4) ≡ b → b ≡ leb (at + 4) len
-    by_test true e = sym (le-leb (at + 4) len (omega (arith, leb-true at (len - 4) e)))
-    by_test false e = sym (lt-leb (at + 4) len (omega (arith, leb-false at (len - 4) e)))
-
--- the four bytes of a word, where they fit
-pub printed_four : (l m : List ℕ) (at w : ℕ) → at + 4 ≤ length l → length l < 18446744073709551616 → m ≡ sets l at (little w) → Printed (little w) l at (at + 4) m
+pub little_is : (w : ℕ) → to_le_bytes w32 w ≡ little w
 unfolding little
-printed_four l m at w h small e = record { place = omega arith; bytes = e }
+little_is w =
+    let two : w / 65536 ≡ w / 256 / 256 = omega arith in
+    let three : w / 16777216 ≡ w / 256 / 256 / 256 = omega arith in
+    rw (two, three)
+
+pub joined_is : (a b c d : ℕ) → from_le_bytes w32 (a ∷ b ∷ c ∷ d ∷ []) ≡ joined a b c d
+joined_is a b c d = omega arith
