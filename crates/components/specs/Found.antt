@@ -1,6 +1,7 @@
 -- Document 01, "Lookup on elements" and "On fields", and Q's refusals, over the tables.
-use Rattle.std.specs.Prelude.{ℕ, ◌+◌, Bool, true, false, cond, List, [], ◌∷◌, length, set}
+use Rattle.std.specs.Prelude.{ℕ, ◌+◌, Bool, true, false, List, [], ◌∷◌, length, set, Option, Some, None, Ok}
 use Rattle.std.proofs.lemmas.List.Edits.{sets}
+use Rattle.arith.specs.InCode.{OrRefusal, err}
 use Rattle.arith.specs.Pairs.{both}
 use Rattle.arith.specs.Refusals.{Result, ok, refused, in_room}
 use Rattle.shapes.specs.declared.Components.{Components}
@@ -8,10 +9,6 @@ use Rattle.shapes.specs.Spans.{spans_of, parts_by, answer_over}
 use Rattle.shapes.specs.Rows.{answer_at}
 use Rattle.layout.specs.Arrays.{Answer}
 use Rattle.layout.specs.Lookup.{components_containing, lookup_by}
-use Rattle.components.specs.declared.Element.{Element}
-use Rattle.components.specs.declared.Element.TheVariants.{At, Nothing}
-use Rattle.components.specs.declared.Lookup.{Lookup}
-use Rattle.components.specs.declared.Lookup.TheVariants.{Found, Refused}
 
 -- what a type answers, from the tables
 abbrev pub answers_in : (layouts : List ℕ) (n : ℕ) (offsets members : List ℕ) → ℕ → Answer
@@ -27,23 +24,23 @@ lookup_in layouts n offsets members t start end = lookup_by n (answers_in layout
 
 -- ---- as the code answers
 
-unfoldable pub held_element : List ℕ → Element
-held_element [] = Nothing
-held_element (i ∷ rest) = At i
+unfoldable pub held_element : List ℕ → Option ℕ
+held_element [] = None
+held_element (i ∷ rest) = Some i
 
--- how many are found, and the list with them, if they are to be written; what lies past its end is left out
-unfoldable pub counted : (write : Bool) → (out found : List ℕ) → ℕ × List ℕ
-counted write out found = both (length found) (sets out 0 (cond write found []))
+-- how many are found, and the list with them; what lies past its end is left out
+unfoldable pub counted : (out found : List ℕ) → ℕ × List ℕ
+counted out found = both (length found) (sets out 0 found)
 
 -- one more of them, behind n that are there
-unfoldable pub kept : (write hit : Bool) → (n i : ℕ) → List ℕ → ℕ × List ℕ
-kept write true n i out = both (n + 1) (cond write (set out n i) out)
-kept write false n i out = both n out
+unfoldable pub kept : (hit : Bool) → (n i : ℕ) → List ℕ → ℕ × List ℕ
+kept true n i out = both (n + 1) (set out n i)
+kept false n i out = both n out
 
 -- the answer, and the list afterwards: untouched where the question is refused
-unfoldable pub lookup_both : (out : List ℕ) → Result (List ℕ) → Lookup × List ℕ
-lookup_both out (ok found) = both (Found (length found)) (sets out 0 found)
-lookup_both out (refused n) = both (Refused n) out
+unfoldable pub lookup_both : (out : List ℕ) → Result (List ℕ) → OrRefusal ℕ × List ℕ
+lookup_both out (ok found) = both (Ok (length found)) (sets out 0 found)
+lookup_both out (refused n) = both (err n) out
 
-abbrev pub answered_in : (out : List ℕ) → Result (List ℕ) → Lookup × List ℕ
+abbrev pub answered_in : (out : List ℕ) → Result (List ℕ) → OrRefusal ℕ × List ℕ
 answered_in out r = lookup_both out (in_room (length out) length r)

@@ -1,9 +1,0 @@
--- `components::in_length` meets its contract: what the calls and tests on the way say picks the case of the definition. Assumes nothing.
-use borrow.Author.Tests.{eq-eqb, ne_eqb}
-use Rattle.components.proofs.in_length.Goals as goal
-
-pub returns-then-len-eq0 : goal.returns-then-len-eq0
-returns-then-len-eq0 c = rw (eq-eqb _ _ c.if-len-eq0.true)
-
-pub returns-else-len-eq0 : goal.returns-else-len-eq0
-returns-else-len-eq0 c = rw (ne_eqb _ _ c.if-len-eq0.false)
