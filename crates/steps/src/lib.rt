@@ -2,7 +2,7 @@
 #![tactic(auto)]
 
 ghost use Rattle.std.specs.Prelude.{◌≡◌, [], ◌∷◌, set};
-ghost use Rattle.steps.specs.Words.{word_of, with_index, encode, index_of, decode};
+ghost use Rattle.steps.specs.Words.{with_index, encode, index_of, decode};
 ghost use Rattle.steps.specs.Lists.{step_at};
 ghost use Rattle.steps.specs.Stored.{StoredAt};
 
@@ -10,7 +10,7 @@ use lower::QPtrOp;
 use spirv::Index;
 
 // Kind 1 is H, 2 B, 3 O, 4 D. The bytes are a constant offset's, as a word, or a stride. Mark 0 is a known index, 1 an unknown.
-#[derive(Clone, Copy)]
+#[derive(Clone, Copy, Debug, Default, PartialEq, Eq, Hash)]
 pub struct StepWords {
     pub kind: u32,
     pub bytes: u32,
@@ -21,35 +21,16 @@ pub struct StepWords {
 
 // ---- to words
 
-// The word that reads as a signed number.
-fn word_of(z: i32) -> u32
-    ensures { result ≡ word_of z }
-{
-    if z < 0 {
-        ((z as i64) + 0x1_0000_0000) as u32
-    } else {
-        z as u32
-    }
-}
-
 fn with_index(kind: u32, bytes: u32, bound: u32, i: Index) -> StepWords
     ensures { result ≡ with_index kind bytes bound i }
 {
-    match i {
-        Index::Known(w) => StepWords {
-            kind,
-            bytes,
-            bound,
-            mark: 0,
-            index: w,
-        },
-        Index::Unknown(v) => StepWords {
-            kind,
-            bytes,
-            bound,
-            mark: 1,
-            index: v,
-        },
+    let [index, mark] = spirv::encode_index(i);
+    StepWords {
+        kind,
+        bytes,
+        bound,
+        mark,
+        index,
     }
 }
 
@@ -61,17 +42,12 @@ pub fn words_of(s: QPtrOp) -> StepWords
         QPtrOp::HandleArrayIndex { index } => with_index(1, 0, 0, index),
         QPtrOp::BufferData => StepWords {
             kind: 2,
-            bytes: 0,
-            bound: 0,
-            mark: 0,
-            index: 0,
+            ..StepWords::default()
         },
         QPtrOp::Offset(z) => StepWords {
             kind: 3,
-            bytes: word_of(z),
-            bound: 0,
-            mark: 0,
-            index: 0,
+            bytes: z.cast_unsigned(),
+            ..StepWords::default()
         },
         QPtrOp::DynOffset {
             stride,
@@ -86,32 +62,28 @@ pub fn words_of(s: QPtrOp) -> StepWords
 fn index_of(mark: u32, index: u32) -> Index
     ensures { result ≡ index_of mark index }
 {
-    if mark == 0 {
-        return Index::Known(index);
+    match mark {
+        0 => Index::Known(index),
+        _ => Index::Unknown(index),
     }
-    Index::Unknown(index)
 }
 
 // The step that words hold; a kind that is none of the four reads as B.
 pub fn step_of(s: StepWords) -> QPtrOp
     ensures { result ≡ decode s }
 {
-    if s.kind == 1 {
-        return QPtrOp::HandleArrayIndex {
+    match s.kind {
+        1 => QPtrOp::HandleArrayIndex {
             index: index_of(s.mark, s.index),
-        };
-    }
-    if s.kind == 3 {
-        return QPtrOp::Offset(arith::as_signed(s.bytes));
-    }
-    if s.kind == 4 {
-        return QPtrOp::DynOffset {
+        },
+        3 => QPtrOp::Offset(arith::as_signed(s.bytes)),
+        4 => QPtrOp::DynOffset {
             stride: s.bytes,
             bound: s.bound,
             index: index_of(s.mark, s.index),
-        };
+        },
+        _ => QPtrOp::BufferData,
     }
-    QPtrOp::BufferData
 }
 
 // ---- in five lists
@@ -140,6 +112,7 @@ pub fn step_at(
 fn put(list: &mut [u32], n: usize, v: u32)
     ensures { list.new ≡ set list.old n v }
 {
+    // by index: of what is written through a slice's get_mut a proof knows nothing
     if n < list.len() {
         list[n] = v;
     }

@@ -9,6 +9,7 @@ ghost use Rattle.text.specs.Printed.{Printed};
 pub fn byte(out: &mut [u8], at: usize, b: u8) -> usize
     ensures { Printed (b ∷ []) out.old at result out.new }
 {
+    // by index: of what is written through a slice's get_mut a proof knows nothing
     if at < out.len() {
         out[at] = b;
     }

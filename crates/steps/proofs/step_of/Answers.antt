@@ -1,22 +1,22 @@
--- `steps::step_of` meets its contract: the tests on the kind. Assumes nothing.
-use Rattle.steps.specs.Words.{decode}
-use borrow.Author.Tests.{eq-eqb, ne_eqb}
+-- `steps::step_of` meets its contract: the match on the kind. Assumes nothing.
+use Rattle.std.proofs.Common.{rules, tests}
 use mir.Syntax.{w32}
 use mir.ValLaws.{to_z-of_z}
+use Rattle.steps.specs.Words.{decode}
 use Rattle.steps.proofs.step_of.Goals as goal
 
-pub returns-then-s-eq1 : goal.returns-then-s-eq1
+pub returns-in-1 : goal.returns-in-1
 unfolding decode
-returns-then-s-eq1 c = rw (eq-eqb _ _ c.if-s-eq1.true, c.index_of.ensures)
+returns-in-1 c = rw (c.in-1.is, c.index_of.ensures)
 
-pub returns-then-s-eq3 : goal.returns-then-s-eq3
+pub returns-in-3 : goal.returns-in-3
 unfolding decode
-returns-then-s-eq3 c = rw (ne_eqb _ _ c.if-s-eq1.false, eq-eqb _ _ c.if-s-eq3.true, to_z-of_z w32 c.as_signed.result (record { sfits = c.as_signed.type_inv }), c.as_signed.ensures)
+returns-in-3 c = rw (c.in-3.is, to_z-of_z w32 c.as_signed.result (record { sfits = c.as_signed.type_inv }), c.as_signed.ensures)
 
-pub returns-then-s-eq4 : goal.returns-then-s-eq4
+pub returns-in-4 : goal.returns-in-4
 unfolding decode
-returns-then-s-eq4 c = rw (ne_eqb _ _ c.if-s-eq1.false, ne_eqb _ _ c.if-s-eq3.false, eq-eqb _ _ c.if-s-eq4.true, c.index_of-then-s-eq4.ensures)
+returns-in-4 c = rw (c.in-4.is, c.index_of-in-4.ensures)
 
-pub returns : goal.returns
+pub returns-in_default : goal.returns-in_default
 unfolding decode
-returns c = rw (ne_eqb _ _ c.if-s-eq1.false, ne_eqb _ _ c.if-s-eq3.false, ne_eqb _ _ c.if-s-eq4.false)
+returns-in_default c = search (rules, tests)

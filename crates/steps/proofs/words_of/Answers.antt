@@ -1,7 +1,9 @@
 -- `steps::words_of` meets its contract: the variant picks the kind. Assumes nothing.
-use Rattle.steps.specs.Words.{encode}
+use Rattle.std.proofs.Common.{rules}
 use mir.Syntax.{w32}
 use mir.ValLaws.{to_z-of_z}
+use Rattle.steps.specs.Words.{encode}
+use Rattle.steps.proofs.Signs.{as_word}
 use Rattle.steps.proofs.words_of.Goals as goal
 
 pub returns-in-HandleArrayIndex : goal.returns-in-HandleArrayIndex
@@ -10,11 +12,13 @@ returns-in-HandleArrayIndex c = rw c.in-HandleArrayIndex.is c.with_index.ensures
 
 pub returns-in-BufferData : goal.returns-in-BufferData
 unfolding encode
-returns-in-BufferData c = rw c.in-BufferData.is
+returns-in-BufferData c = let d = c.default.ensures in rw (c.in-BufferData.is, d.1.0, d.1.1.0, d.1.1.1.0, d.1.1.1.1)
 
 pub returns-in-Offset : goal.returns-in-Offset
 unfolding encode
-returns-in-Offset c = rw (c.in-Offset.is, c.word_of.ensures, to_z-of_z w32 _ (record { sfits = c.in-Offset.known_told-in-Offset-1-own.given.0.1 }))
+returns-in-Offset c = 
+    let d = c.default-in-Offset.ensures in
+    rw (c.in-Offset.is, d.1.1.0, d.1.1.1.0, d.1.1.1.1, c.cast_unsigned.ensures, to_z-of_z w32 c.in-Offset.z (search rules), as_word)
 
 pub returns-in-DynOffset : goal.returns-in-DynOffset
 unfolding encode

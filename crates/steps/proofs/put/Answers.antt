@@ -1,7 +1,0 @@
--- `steps::put` meets its contract. Assumes nothing.
-use mathlib.Core.Path.{sym}
-use lib.Seq.{set_out}
-use Rattle.steps.proofs.put.Goals as goal
-
-pub returns-else-n-list : goal.returns-else-n-list
-returns-else-n-list c = sym (set_out _ _ _ c.if-n-list.false)
