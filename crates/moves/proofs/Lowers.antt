@@ -6,8 +6,10 @@ use mathlib.Core.List.{List, [], ◌∷◌, ◌++◌}
 use mathlib.Core.Option.{Option, none, some}
 use lib.Dec.{leb}
 use lib.IntN.{ℤ, pos}
+use Rattle.std.specs.Prelude.{None, Some, Ok, Err}
 use Rattle.arith.specs.Refusals.{Result, ok, refused, ◌>>=◌, ◌>>◌, refuse◌unless◌}
 use Rattle.arith.specs.Numbers.{max_i32, signed}
+use Rattle.arith.specs.InCode.{OrRefusal, err}
 use Rattle.spirv.specs.declared.Index.{Index}
 use Rattle.spirv.specs.declared.Index.TheVariants.{Known, Unknown}
 use Rattle.shapes.specs.declared.Components.{Components}
@@ -15,8 +17,6 @@ use Rattle.shapes.specs.declared.Components.TheVariants.{Scalar, Elements, Field
 use Rattle.shapes.specs.declared.Handle.TheVariants as handle
 use Rattle.shapes.specs.declared.TypeLayout.{TypeLayout}
 use Rattle.shapes.specs.declared.TypeLayout.TheVariants as layout
-use Rattle.shapes.specs.declared.Answer.{Answer}
-use Rattle.shapes.specs.declared.Answer.TheVariants.{Laid, Refused}
 use Rattle.shapes.specs.Shapes as def
 use Rattle.shapes.specs.Spans.{span_of, spans_of, parts_by, layout_by, answer_by}
 use Rattle.places.specs.declared.Place.{Place}
@@ -24,17 +24,14 @@ use Rattle.places.specs.declared.Place.TheVariants.{Memory, Buffer, Buffers, Opa
 use Rattle.places.specs.Places.{place_of, found_of, layout_at}
 use Rattle.lower.specs.declared.QPtrOp.{QPtrOp}
 use Rattle.lower.specs.declared.QPtrOp.TheVariants.{HandleArrayIndex, BufferData, DynOffset}
-use Rattle.lower.specs.declared.Pending.{Pending}
-use Rattle.lower.specs.declared.Pending.TheVariants.{Empty, Waiting}
-use Rattle.lower.specs.Steps.{flush, merged, Field, field_of, bound_of, constant_offset, by_constant, to_field, to_element, to_part, Move, move, lower_from}
+use Rattle.lower.specs.Steps.{Pending, flush, merged, Field, field_of, bound_of, constant_offset, by_constant, to_field, to_element, to_part, Move, move, lower_from}
 use Rattle.moves.specs.declared.By.TheVariants as by
-use Rattle.moves.specs.declared.Way.TheVariants.{Stop}
 use Rattle.moves.specs.declared.Move.TheVariants as code
 use Rattle.moves.specs.declared.Move.{Move as CodeMove}
 use Rattle.moves.specs.Moves as moves
 use Rattle.moves.specs.Written.{before}
 
-module _ (answers : ℕ → Answer) (offsets members : List ℕ) where
+module _ (answers : ℕ → OrRefusal TypeLayout) (offsets members : List ℕ) where
   -- as the definitions have them
   abbrev pub Seen : TypeLayout → def.TypeLayout
   Seen l = layout_by (spans_of offsets members) l
@@ -51,11 +48,11 @@ module _ (answers : ℕ → Answer) (offsets members : List ℕ) where
   Here u p is = From (layout_at u) p is
 
   -- what a move leads to
-  abbrev pub follow : CodeMove → Index → Pending → List Index → Result (List QPtrOp)
-  follow (code.Reject e) i p is = refused e
-  follow (code.Onward u q) i p is = Here u q is
-  follow (code.Emit u s) i p is = before (flush p (s ∷ [])) (Here u Empty is)
-  follow (code.Inside c) i p is = before (flush p (BufferData ∷ [])) (Here (Memory c) Empty (i ∷ is))
+  abbrev pub follow : OrRefusal CodeMove → Index → Pending → List Index → Result (List QPtrOp)
+  follow (Err e) i p is = refused e.number
+  follow (Ok (code.Onward u q)) i p is = Here u q is
+  follow (Ok (code.Emit u s)) i p is = before (flush p (s ∷ [])) (Here u None is)
+  follow (Ok (code.Inside c)) i p is = before (flush p (BufferData ∷ [])) (Here (Memory c) None (i ∷ is))
 
   -- a layout leads where its place does
   pub as_placed : (l : TypeLayout) (p : Pending) (is : List Index) → From l p is ≡ Here (place_of l) p is
@@ -64,7 +61,7 @@ module _ (answers : ℕ → Answer) (offsets members : List ℕ) where
   as_placed (layout.Handle handle.Opaque) p (i ∷ is) = refl
   as_placed (layout.Handle (handle.Buffer m)) p (i ∷ is) = refl
   as_placed (layout.HandleArray handle.Opaque n) p (i ∷ is) = refl
-  as_placed (layout.HandleArray (handle.Buffer m) n) p (i ∷ is) = rw (as_placed (layout.Handle (handle.Buffer m)) Empty is)
+  as_placed (layout.HandleArray (handle.Buffer m) n) p (i ∷ is) = rw (as_placed (layout.Handle (handle.Buffer m)) None is)
   as_placed (layout.Concrete m) p (i ∷ is) = refl
 
   -- ---- the rest of a chain behind a move
@@ -95,14 +92,14 @@ module _ (answers : ℕ → Answer) (offsets members : List ℕ) where
       → on (by_constant c d p (Seen u)) is ≡ follow (moves.by_constant (place_of u) d p c) i p is
   unfolding by_constant ◌>>=◌
   on_constant (some z) d u i p is = on_merged (merged p z) u i p is
-  on_constant none d u i p is = some_before (flush p (d ∷ [])) (From u Empty is) ∙ ap (before (flush p (d ∷ []))) (as_placed u Empty is)
+  on_constant none d u i p is = some_before (flush p (d ∷ [])) (From u None is) ∙ ap (before (flush p (d ∷ []))) (as_placed u None is)
 
-  on_element : (a : Answer) (stride len : ℕ) (i : Index) (p : Pending) (is : List Index)
+  on_element : (a : OrRefusal TypeLayout) (stride len : ℕ) (i : Index) (p : Pending) (is : List Index)
       → on (answer_by (spans_of offsets members) a >>= λ l. by_constant (constant_offset stride len i) (DynOffset stride (bound_of len) i) p l) is
       ≡ follow (moves.arrived (by.Element stride len) i p (found_of a)) i p is
   unfolding ◌>>=◌
-  on_element (Laid u) stride len i p is = on_constant (constant_offset stride len i) _ u i p is
-  on_element (Refused e) stride len i p is = refl
+  on_element (Ok u) stride len i p is = on_constant (constant_offset stride len i) _ u i p is
+  on_element (Err e) stride len i p is = refl
 
   -- ---- fields
 
@@ -111,10 +108,10 @@ module _ (answers : ℕ → Answer) (offsets members : List ℕ) where
   on_field os ts (Unknown v) p is = refl
   on_field os ts (Known w) p is = for (field_of os ts (signed w))
     where
-      for_answer : (a : Answer) (q : Pending)
+      for_answer : (a : OrRefusal TypeLayout) (q : Pending)
           → on (answer_by (spans_of offsets members) a >>= λ l. ok record { steps = []; pending = q; layout = l }) is ≡ follow (moves.arrived (by.Field q) (Known w) p (found_of a)) (Known w) p is
-      for_answer (Laid u) q = none_before (From u q is) ∙ as_placed u q is
-      for_answer (Refused e) q = refl
+      for_answer (Ok u) q = none_before (From u q is) ∙ as_placed u q is
+      for_answer (Err e) q = refl
 
       for_merged : (t : ℕ) (r : Result Pending)
           → on (r >>= λ q. seen t >>= λ l. ok record { steps = []; pending = q; layout = l }) is ≡ follow (moves.move_by answers (Known w) p (moves.by_offset t r)) (Known w) p is
@@ -128,7 +125,7 @@ module _ (answers : ℕ → Answer) (offsets members : List ℕ) where
         where
           for_test : (t : Bool)
               → on ((refuse 22 unless t) >> (merged p (pos f.offset) >>= λ q. seen f.type >>= λ l. ok record { steps = []; pending = q; layout = l })) is
-              ≡ follow (moves.move_by answers (Known w) p (cond t (moves.by_offset f.type (merged p (pos f.offset))) (Stop 22))) (Known w) p is
+              ≡ follow (moves.move_by answers (Known w) p (cond t (moves.by_offset f.type (merged p (pos f.offset))) (err 22))) (Known w) p is
           for_test true = for_merged f.type (merged p (pos f.offset))
           for_test false = refl
       for (refused e) = refl
@@ -144,8 +141,8 @@ module _ (answers : ℕ → Answer) (offsets members : List ℕ) where
 
   -- steps behind what waits and B
   flush_append : (p : Pending) (x : QPtrOp) (ss rest : List QPtrOp) → flush p (x ∷ ss) ++ rest ≡ flush p (x ∷ []) ++ (ss ++ rest)
-  flush_append Empty x ss rest = refl
-  flush_append (Waiting z) x ss rest = refl
+  flush_append None x ss rest = refl
+  flush_append (Some z) x ss rest = refl
 
   on_buffer : (r : Result Move) (p : Pending) (is : List Index)
       → on (r >>= λ a. ok record { steps = flush p (BufferData ∷ a.steps); pending = a.pending; layout = a.layout }) is ≡ before (flush p (BufferData ∷ [])) (on r is)
@@ -160,9 +157,9 @@ module _ (answers : ℕ → Answer) (offsets members : List ℕ) where
   pub more : (l : Place) (i : Index) (p : Pending) (is : List Index) → Here l p (i ∷ is) ≡ follow (moves.move_of answers offsets members l i p) i p is
   unfolding lower_from move moves.move_of ◌>>=◌
   more Opaque i p is = refl
-  more (Buffer c) i p is = on_buffer (to_part seen (parts_by (spans_of offsets members) c) i Empty) p is
-  more Opaques i p is = some_before (flush p (HandleArrayIndex i ∷ [])) (Here Opaque Empty is)
-  more (Buffers c) i p is = some_before (flush p (HandleArrayIndex i ∷ [])) (Here (Buffer c) Empty is)
+  more (Buffer c) i p is = on_buffer (to_part seen (parts_by (spans_of offsets members) c) i None) p is
+  more Opaques i p is = some_before (flush p (HandleArrayIndex i ∷ [])) (Here Opaque None is)
+  more (Buffers c) i p is = some_before (flush p (HandleArrayIndex i ∷ [])) (Here (Buffer c) None is)
   more (Memory c) i p is = on_part c i p is
 
   pub no_more : (l : Place) (p : Pending) → Here l p [] ≡ ok (flush p [])
