@@ -10,6 +10,7 @@ ghost use Rattle.arith.specs.Pairs.{both};
 ghost use Rattle.components.specs.Found.{found_in, lookup_in, held_element, counted, kept, answered_in};
 
 use arith::refusal::Refusal;
+use shapes::tables::Layouts;
 use shapes::{Components, TypeLayout, rows};
 
 // ---- on elements
@@ -120,8 +121,7 @@ fn elements_containing(
 // The fields whose offsets and types are these.
 #[tactic(auto, unfolding(crate::specs::Found::counted))]
 fn fields_containing(
-    layouts: &[u32],
-    n: u32,
+    layouts: &Layouts<'_>,
     offsets: &[u32],
     types: &[u32],
     start: u32,
@@ -129,11 +129,11 @@ fn fields_containing(
     out: &mut [u32],
 ) -> usize
     requires { length offsets.now < 4294967296 }
-    ensures { (f : Reading) → both result out.new ≡ counted out.old (fields_holding (λ t. answer_by f (answer_at layouts.now n t)) offsets.now types.now 0 start end) }
+    ensures { (f : Reading) → both result out.new ≡ counted out.old (fields_holding (λ t. answer_by f (answer_at layouts.now.rows.now layouts.now.count t)) offsets.now types.now 0 start end) }
 {
     let mut count = 0;
     for i in 0..offsets.len().min(types.len()) {
-        let a = rows::answer_at(layouts, n, types[i]);
+        let a = layouts.answer_at(types[i]);
         let hit = field_holds(offsets[i], a, start, end);
         count = keep(hit, out, count, i as u32);
     }
@@ -142,17 +142,8 @@ fn fields_containing(
 
 // The components that hold the range, counted and written.
 #[tactic(auto, unfolding(crate::specs::Found::counted, layout::specs::Lookup::components_containing))]
-fn collect(
-    layouts: &[u32],
-    n: u32,
-    offsets: &[u32],
-    members: &[u32],
-    c: Components,
-    start: u32,
-    end: u32,
-    out: &mut [u32],
-) -> usize
-    ensures { both result out.new ≡ counted out.old (found_in layouts.now n offsets.now members.now c start end) }
+fn collect(layouts: &Layouts<'_>, c: Components, start: u32, end: u32, out: &mut [u32]) -> usize
+    ensures { both result out.new ≡ counted out.old (found_in layouts.now.rows.now layouts.now.count layouts.now.offsets.now layouts.now.members.now c start end) }
 {
     match c {
         Components::Scalar => 0,
@@ -161,13 +152,13 @@ fn collect(
             elem,
             fixed_len,
         } => {
-            let size = size_of_part(rows::answer_at(layouts, n, elem));
+            let size = size_of_part(layouts.answer_at(elem));
             elements_containing(stride, fixed_len, size, start, end, out)
         }
         Components::Fields { start: at, count } => {
-            let own = rows::span(offsets, at, count);
-            let types = rows::span(members, at, count);
-            fields_containing(layouts, n, own, types, start, end, out)
+            let own = rows::span(layouts.offsets, at, count);
+            let types = rows::span(layouts.members, at, count);
+            fields_containing(layouts, own, types, start, end, out)
         }
     }
 }
@@ -175,46 +166,40 @@ fn collect(
 // The result is counted first, so that 24 leaves the list untouched.
 #[tactic(auto, unfolding(arith::proofs::Opened::opened, crate::specs::Found::counted, crate::specs::Found::lookup_both))]
 fn in_room(
-    layouts: &[u32],
-    n: u32,
-    offsets: &[u32],
-    members: &[u32],
+    layouts: &Layouts<'_>,
     c: Components,
     start: u32,
     end: u32,
     out: &mut [u32],
 ) -> Result<usize, Refusal>
-    ensures { both result out.new ≡ answered_in out.old (ok (found_in layouts.now n offsets.now members.now c start end)) }
+    ensures { both result out.new ≡ answered_in out.old (ok (found_in layouts.now.rows.now layouts.now.count layouts.now.offsets.now layouts.now.members.now c start end)) }
 {
-    let count = collect(layouts, n, offsets, members, c, start, end, &mut []);
+    let count = collect(layouts, c, start, end, &mut []);
     if out.len() < count {
         return Err(Refusal::SHORT_LIST);
     }
-    Ok(collect(layouts, n, offsets, members, c, start, end, out))
+    Ok(collect(layouts, c, start, end, out))
 }
 
 // The components of type t that hold the bytes from start to end, rising: 28, layout, 19, 24.
 #[tactic(auto, unfolding(arith::proofs::Opened::opened, layout::specs::Lookup::lookup_by, layout::specs::Lookup::in_memory_only, crate::specs::Found::lookup_both))]
 pub fn find_components_containing(
-    layouts: &[u32],
-    n: u32,
-    offsets: &[u32],
-    members: &[u32],
+    layouts: &Layouts<'_>,
     t: u32,
     start: u32,
     end: u32,
     out: &mut [u32],
 ) -> Result<usize, Refusal>
-    ensures { both result out.new ≡ answered_in out.old (lookup_in layouts.now n offsets.now members.now t start end) }
+    ensures { both result out.new ≡ answered_in out.old (lookup_in layouts.now.rows.now layouts.now.count layouts.now.offsets.now layouts.now.members.now t start end) }
 {
-    if n <= t {
+    if layouts.count <= t {
         return Err(Refusal::MISREAD);
     }
     if end < start {
         return Err(Refusal::REVERSED);
     }
-    let TypeLayout::Concrete(m) = rows::answer_at(layouts, n, t)? else {
+    let TypeLayout::Concrete(m) = layouts.answer_at(t)? else {
         return Err(Refusal::NO_PARTS);
     };
-    in_room(layouts, n, offsets, members, m.components, start, end, out)
+    in_room(layouts, m.components, start, end, out)
 }

@@ -7,4 +7,4 @@ pub returns-in-Fields : goal.returns-in-Fields
 unfolding components_containing
 returns-in-Fields c =
     let a = c.args in
-    rw c.in-Fields.is (rw (c.span-own.ensures, c.span-types.ensures) at (c.fields_containing.ensures (spans_of a.offsets.now a.members.now)))
+    rw c.in-Fields.is (rw (c.span-own.ensures, c.span-types.ensures) at (c.fields_containing.ensures (spans_of a.layouts.now.offsets.now a.layouts.now.members.now)))

@@ -14,7 +14,7 @@ loop-i-preserved c =
     let k : c.keep-count.result ≡ (kept c.field_holds-hit.result l.count l.i l.out).0 = ap (λ (p : ℕ × List ℕ). p.0) c.keep-count.ensures in
     record {
       few = omega arith;
-      whole = λ f. fields_turn (λ t. answer_by f (answer_at a.layouts.now a.n t)) a.offsets.now a.types.now a.start a.end l.i l.count l.out c.field_holds-hit.result _ _ (omega arith) (omega arith)
+      whole = λ f. fields_turn (λ t. answer_by f (answer_at a.layouts.now.rows.now a.layouts.now.count t)) a.offsets.now a.types.now a.start a.end l.i l.count l.out c.field_holds-hit.result _ _ (omega arith) (omega arith)
           (c.field_holds-hit.ensures f ∙ rw c.answer_at-a.ensures) c.keep-count.ensures ∙ l.invariant.whole f;
     }
 
@@ -22,4 +22,4 @@ pub returns : goal.returns
 returns c =
     let a = c.args in
     let l = c.loop-i in
-    λ f. fields_over (λ t. answer_by f (answer_at a.layouts.now a.n t)) a.offsets.now a.types.now a.start a.end l.i l.count l.out (omega arith) ∙ l.invariant.whole f
+    λ f. fields_over (λ t. answer_by f (answer_at a.layouts.now.rows.now a.layouts.now.count t)) a.offsets.now a.types.now a.start a.end l.i l.count l.out (omega arith) ∙ l.invariant.whole f

@@ -15,6 +15,6 @@ found_from layouts n f offsets types i start end = fields_holding (λ t. answer_
 abbrev pub invariant-loop-i : goal.invariant-loop-i
 invariant-loop-i l = record {
   few : l.count ≤ l.i;
-  whole : (f : Reading) → let rest = found_from l.layouts l.n f l.offsets l.types l.i l.start l.end in
-      ◌≡◌ {A = ℕ × List ℕ} (both (l.count + length rest) (sets l.out l.count rest)) (counted l.initial.out (found_from l.layouts l.n f l.offsets l.types 0 l.start l.end));
+  whole : (f : Reading) → let rest = found_from l.layouts.rows.now l.layouts.count f l.offsets l.types l.i l.start l.end in
+      ◌≡◌ {A = ℕ × List ℕ} (both (l.count + length rest) (sets l.out l.count rest)) (counted l.initial.out (found_from l.layouts.rows.now l.layouts.count f l.offsets l.types 0 l.start l.end));
 }
