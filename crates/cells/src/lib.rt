@@ -23,10 +23,8 @@ pub fn numbers(out: &mut [u8], at: usize, ns: &[u32]) -> usize
     ensures { Printed (behind (map decimal ns.now)) out.old at result out.new }
 {
     let mut p = at;
-    let mut i = 0;
-    while i < ns.len() {
-        p = number(out, p, ns[i]);
-        i += 1;
+    for n in ns {
+        p = number(out, p, *n);
     }
     p
 }
@@ -96,11 +94,9 @@ pub fn first_steps(
     ensures { Printed (behind (steps_fields (steps_in kinds.now bytes.now bounds.now marks.now indices.now count))) out.old at result out.new }
 {
     let mut p = at;
-    let mut j = 0;
-    while j < count {
+    for j in 0..count {
         let s = steps::step_at(kinds, bytes, bounds, marks, indices, j);
         p = step(out, p, s);
-        j += 1;
     }
     p
 }

@@ -1,5 +1,4 @@
 -- `cells::first_steps` meets its contract. The loop's invariant: the first j steps are printed. Assumes nothing.
-use Prim.Native.Nat.{◌≤◌, ◌-◌}
 use Rattle.answers.specs.Lines.{steps_fields}
 use Rattle.cells.specs.Behind.{behind}
 use Rattle.steps.specs.Lists.{steps_in}
@@ -7,8 +6,4 @@ use Rattle.text.specs.Printed.{Printed}
 use Rattle.cells.proofs.first_steps.Given as goal
 
 abbrev pub invariant-loop-j : goal.invariant-loop-j
-invariant-loop-j l =
-    (l.j ≤ l.count) × Printed (behind (steps_fields (steps_in l.kinds l.bytes l.bounds l.marks l.indices l.j))) l.initial.out l.at l.p l.out
-
-abbrev pub decreases-loop-j : goal.decreases-loop-j
-decreases-loop-j l = l.count - l.j
+invariant-loop-j l = Printed (behind (steps_fields (steps_in l.kinds l.bytes l.bounds l.marks l.indices l.j))) l.initial.out l.at l.p l.out

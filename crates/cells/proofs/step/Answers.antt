@@ -1,5 +1,6 @@
 -- `cells::step` meets its contract: the variant picks the fields. Assumes nothing.
 use Rattle.cells.proofs.Laws.{field, fields}
+use Rattle.std.proofs.Common.{rules}
 use mir.Syntax.{w32}
 use mir.ValLaws.{to_z-of_z}
 use Rattle.cells.proofs.step.Goals as goal
@@ -12,7 +13,7 @@ returns-in-BufferData c = rw c.in-BufferData.is (field c.bytes.ensures)
 
 pub returns-in-Offset : goal.returns-in-Offset
 returns-in-Offset c =
-    let bytes-are = rw (to_z-of_z w32 _ (record { sfits = c.in-Offset.known_told-in-Offset-1-own.given.0.1 })) at c.signed.ensures in
+    let bytes-are = rw (to_z-of_z w32 c.in-Offset.bytes (search rules)) at c.signed.ensures in
     rw c.in-Offset.is (fields c.well_formed.0.0 _ _ (field c.bytes-a-in-Offset.ensures) bytes-are)
 
 pub returns-in-DynOffset : goal.returns-in-DynOffset
