@@ -4,19 +4,19 @@ use Rattle.arith.specs.Refusals.{◌>>=◌}
 use Rattle.printing.proofs.Types.{any_types}
 use Rattle.replies.proofs.equal_line.Goals as goal
 
-pub returns-in-Refused : goal.returns-in-Refused
+pub returns-in-Err : goal.returns-in-Err
 unfolding ◌>>=◌
-returns-in-Refused c =
-    λ members. rw (sym c.answer_at.ensures ∙ c.in-Refused.is) c.refusal_line.ensures
+returns-in-Err c =
+    λ members. rw (sym c.answer_at.ensures ∙ c.in-Err.is) c.refusal_line.ensures
 
-pub returns-in-Refused-answer_at : goal.returns-in-Refused-answer_at
+pub returns-in-Err-answer_at : goal.returns-in-Err-answer_at
 unfolding ◌>>=◌
-returns-in-Refused-answer_at c =
-    λ members. rw (sym c.answer_at.ensures ∙ c.in-Laid.is, sym c.answer_at-in-Laid.ensures ∙ c.in-Refused-answer_at.is) c.refusal_line-in-Refused-answer_at.ensures
+returns-in-Err-answer_at c =
+    λ members. rw (sym c.answer_at.ensures ∙ c.in-Ok.is, sym c.answer_at-in-Ok.ensures ∙ c.in-Err-answer_at.is) c.refusal_line-in-Err-answer_at.ensures
 
-pub returns-in-Laid-answer_at : goal.returns-in-Laid-answer_at
+pub returns-in-Ok-answer_at : goal.returns-in-Ok-answer_at
 unfolding ◌>>=◌
-returns-in-Laid-answer_at c =
-    let os = c.args.offsets.now in
-    λ members. rw (sym c.answer_at.ensures ∙ c.in-Laid.is, sym c.answer_at-in-Laid.ensures ∙ c.in-Laid-answer_at.is, any_types os members c.in-Laid.a, any_types os members c.in-Laid-answer_at.b, ← c.same_lines-same.ensures)
+returns-in-Ok-answer_at c =
+    let os = c.args.layouts.now.offsets.now in
+    λ members. rw (sym c.answer_at.ensures ∙ c.in-Ok.is, sym c.answer_at-in-Ok.ensures ∙ c.in-Ok-answer_at.is, any_types os members c.in-Ok.a, any_types os members c.in-Ok-answer_at.b, ← c.same_lines-same.ensures)
     c.equal_line.ensures

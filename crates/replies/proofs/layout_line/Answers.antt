@@ -4,12 +4,12 @@ use Rattle.arith.specs.Refusals.{◌>>=◌}
 use Rattle.printing.proofs.Types.{any_types}
 use Rattle.replies.proofs.layout_line.Goals as goal
 
-pub returns-in-Laid : goal.returns-in-Laid
+pub returns-in-Ok : goal.returns-in-Ok
 unfolding ◌>>=◌
-returns-in-Laid c =
-    λ members. rw (sym c.answer_at.ensures ∙ c.in-Laid.is, any_types c.args.offsets.now members c.in-Laid.l) c.layout_line.ensures
+returns-in-Ok c =
+    λ members. rw (sym c.answer_at.ensures ∙ c.in-Ok.is, any_types c.args.layouts.now.offsets.now members c.in-Ok.l) c.layout_line.ensures
 
-pub returns-in-Refused : goal.returns-in-Refused
+pub returns-in-Err : goal.returns-in-Err
 unfolding ◌>>=◌
-returns-in-Refused c =
-    λ members. rw (sym c.answer_at.ensures ∙ c.in-Refused.is) c.refusal_line.ensures
+returns-in-Err c =
+    λ members. rw (sym c.answer_at.ensures ∙ c.in-Err.is) c.refusal_line.ensures
