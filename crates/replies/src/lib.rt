@@ -9,6 +9,7 @@ ghost use Rattle.replies.specs.Replies.{layout_reply, equal_reply, components_re
 use shapes::tables::Layouts;
 
 // T. No line shows the types of fields, so it is the same for any members.
+#[tactic(auto, unfolding(arith::proofs::Opened::opened), using(printing::proofs::Types::any_types))]
 pub fn layout_line(layouts: &Layouts<'_>, t: u32, out: &mut [u8], at: usize) -> usize
     ensures { (members : List ℕ) → Printed (text_of (layout_reply layouts.now.rows.now layouts.now.count layouts.now.offsets.now members t)) out.old at result out.new }
 {
@@ -19,6 +20,7 @@ pub fn layout_line(layouts: &Layouts<'_>, t: u32, out: &mut [u8], at: usize) -> 
 }
 
 // E.
+#[tactic(auto, unfolding(arith::proofs::Opened::opened), using(printing::proofs::Types::any_types))]
 pub fn equal_line(
     layouts: &Layouts<'_>,
     first: u32,
