@@ -13,18 +13,7 @@ use steps::StepWords;
 pub fn formed(s: &[u8]) -> bool
     ensures { result ≡ formed_bytes s.now }
 {
-    if s.len() % 8 != 0 {
-        return false;
-    }
-    let n = s.len() / 8;
-    let mut i = 0;
-    while i < n {
-        if 1 < words::read_word(s, 8 * i + 4) {
-            return false;
-        }
-        i += 1;
-    }
-    true
+    s.len() % 8 == 0 && s.chunks_exact(8).all(|c| words::read_word(c, 4) <= 1)
 }
 
 // The five words of a step.
@@ -52,12 +41,10 @@ pub fn put_steps(
     ensures { Printed (steps_bytes (steps_in kinds.now bytes.now bounds.now marks.now indices.now count)) out.old at result out.new }
 {
     let mut p = at;
-    let mut j = 0;
-    while j < count {
+    for j in 0..count {
         let s = steps::step_at(kinds, bytes, bounds, marks, indices, j);
         let w = steps::words_of(s);
         p = put_five(out, p, w);
-        j += 1;
     }
     p
 }

@@ -1,31 +1,14 @@
--- `wire::formed` meets its contract. The loop's invariant: the bytes are indices where those from index i on are. Assumes nothing.
-use borrow.Author.Rules.{rules}
-use Prim.Native.Nat.{◌-◌, ◌/◌}
-use native.Mathlib.Omega.{arith}
-use mathlib.Core.Path.{◌≡◌, sym, ◌∙◌}
-use lib.ListN.{length}
-use Rattle.wire.proofs.Laws.{all_pairs, good_pair, bad_pair, odd_bytes}
+-- `wire::formed` meets its contract. Assumes nothing.
+use Rattle.std.proofs.Common.{rules, tests, ◌∙◌}
+use Rattle.std.proofs.lemmas.Iterator.Search.{all_from_yields_List}
+use Rattle.wire.proofs.Laws.{kind_good, whole_pairs, odd_bytes, YieldsList-from_eights}
 use Rattle.wire.proofs.formed.Goals as goal
 
-pub returns-then-s-ne0 : goal.returns-then-s-ne0
-returns-then-s-ne0 c = sym (odd_bytes _ c.if-s-ne0.true)
-
-pub loop-i-init : goal.loop-i-init
-loop-i-init c = (search rules, all_pairs _ c.if-s-ne0.false)
-
-pub returns-then-read_word-gt1 : goal.returns-then-read_word-gt1
-returns-then-read_word-gt1 c =
-    let l = c.loop-i in
-    sym (l.invariant.1 ∙ bad_pair _ l.i _ c.loop-i-test.true (rw c.read_word.ensures at c.if-read_word-gt1.true))
-
-pub loop-i-preserved : goal.loop-i-preserved
-loop-i-preserved c =
-    let l = c.loop-i in
-    (search rules, l.invariant.1 ∙ good_pair _ l.i _ c.loop-i-test.true (rw c.read_word.ensures at c.if-read_word-gt1.false))
-
-pub returns : goal.returns
-returns c =
-    let l = c.loop-i in
+pub returns-then-s-eq0 : goal.returns-then-s-eq0
+returns-then-s-eq0 c =
     let s = c.args.s.now in
-    let none : length s / 8 - l.i ≡ 0 = omega (arith, c.loop-i-test.false) in
-    rw none at (sym l.invariant.1)
+    let eights = YieldsList-from_eights s c.chunks_exact.ensures.rest c.chunks_exact.ensures.size in
+    all_from_yields_List kind_good _ _ _ c.all.ensures.ran eights (λ x b q k. search (rules, tests)) ∙ whole_pairs s c.if-s-eq0.true
+
+pub returns-else-s-eq0 : goal.returns-else-s-eq0
+returns-else-s-eq0 c = search (rules, tests, odd_bytes)

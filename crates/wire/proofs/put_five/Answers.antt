@@ -1,17 +1,12 @@
 -- `wire::put_five` meets its contract: one text behind the other. Assumes nothing.
-use Prim.Native.Nat.{◌<◌}
-use Rattle.text.proofs.Laws.{then}
-use lib.ListN.{length}
-use Prim.Native.Nat.{◌<◌}
+use Rattle.std.proofs.Common.{◌<◌, rules}
 use Rattle.text.proofs.Laws.{then}
 use lib.ListN.{length}
 use Rattle.wire.proofs.put_five.Goals as goal
 
--- `wire::put_five` meets its contract: one text behind the other. Assumes nothing.
-
 pub returns : goal.returns
 returns c =
-    let small : length c.args.out.now < 18446744073709551616 = c.well_formed.0.0 in
+    let small : length c.args.out.now < 18446744073709551616 = search rules in
     then _ _ small (then _ _ small (then _ _ small (then _ _ small c.put_word-a.ensures
     c.put_word-b.ensures)
     c.put_word-c.ensures)

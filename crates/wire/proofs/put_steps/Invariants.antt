@@ -1,13 +1,8 @@
 -- `wire::put_steps` meets its contract. The loop's invariant: the first j steps are printed. Assumes nothing.
-use Prim.Native.Nat.{◌≤◌, ◌-◌}
 use Rattle.wire.specs.Wire.{steps_bytes}
 use Rattle.steps.specs.Lists.{steps_in}
 use Rattle.text.specs.Printed.{Printed}
 use Rattle.wire.proofs.put_steps.Given as goal
 
 abbrev pub invariant-loop-j : goal.invariant-loop-j
-invariant-loop-j l =
-    (l.j ≤ l.count) × Printed (steps_bytes (steps_in l.kinds l.bytes l.bounds l.marks l.indices l.j)) l.initial.out l.at l.p l.out
-
-abbrev pub decreases-loop-j : goal.decreases-loop-j
-decreases-loop-j l = l.count - l.j
+invariant-loop-j l = Printed (steps_bytes (steps_in l.kinds l.bytes l.bounds l.marks l.indices l.j)) l.initial.out l.at l.p l.out
