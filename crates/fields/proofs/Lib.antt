@@ -1,3 +1,3 @@
+pub mod Numbers
 pub mod Pieces
-pub mod Same
 pub mod Took

@@ -1,21 +1,17 @@
 -- How a scan that passes one byte after another finds the pieces. Assumes nothing.
 use mathlib.Core.Path.{◌≡◌, refl, ap, ◌∙◌}
-use mathlib.Core.List.{List, [], ◌∷◌, ◌++◌, append-nil, append_assoc}
-use mathlib.Core.Bool.{Bool, true, false, cond}
+use mathlib.Core.List.{List, [], ◌∷◌}
+use mathlib.Core.Bool.{Bool, true, false, cond, not}
 use Prim.Native.Nat.{ℕ, suc, ◌+◌, ◌-◌, ◌<◌, ◌≤◌}
-use native.Mathlib.Numerals.{add-one}
+use native.Mathlib.Numerals.{one-add}
 use native.Mathlib.Omega.{arith}
-use borrow.Author.Tests.{eq-eqb, ne_eqb, lt-ltb, le-ltb, ltb-true, ltb-false}
+use borrow.Author.Tests.{lt-ltb, le-ltb, ltb-true, ltb-false}
 use lib.Dec.{eqb, ltb}
-use lib.ListN.{length, get_or, drop, length-drop, drop_of_length-le}
-use lib.Seq.{drop-cons, take-suc, get_or-drop}
+use lib.ListN.{length, take, drop, length-drop, drop_of_length-le}
+use Rattle.std.specs.List.{position_or_len}
+use lib.Seq.{drop-drop}
 use Rattle.decimal.specs.Text.{split, in_first}
 use Rattle.fields.specs.Pieces.{part, Piece, behind}
-
--- the bytes p in front of the first piece
-pub glue : List ℕ → List (List ℕ) → List (List ℕ)
-glue p [] = p ∷ []
-glue p (q ∷ qs) = (p ++ q) ∷ qs
 
 -- ---- there is always a piece
 
@@ -32,75 +28,44 @@ split_some c (b ∷ l) = go (eqb b c) (first_some b (split c l))
     go true h = ([], split c l, refl)
     go false h = h
 
-glue_none : (c : ℕ) (l : List ℕ) → split c l ≡ glue [] (split c l)
-unfolding glue
-glue_none c l = let h = split_some c l in rw h.2
-
-glue_first : (p : List ℕ) (b : ℕ) (ps : List (List ℕ)) → glue p (in_first b ps) ≡ glue (p ++ (b ∷ [])) ps
-unfolding glue
-glue_first p b [] = refl
-glue_first p b (q ∷ qs) = rw append_assoc
-
--- ---- one byte
-
-part_more : (s : List ℕ) (a i : ℕ) → a ≤ i → i < length s → part a (i + 1) s ≡ part a i s ++ (get_or s i 0 ∷ [])
-part_more s a i h k =
-    let n : i + 1 - a ≡ suc (i - a) = omega arith in
-    let m : a + (i - a) ≡ i = omega arith in
-    let g : get_or (drop a s) (i - a) 0 ≡ get_or s i 0 = get_or-drop a s (i - a) 0 ∙ ap (λ (k : ℕ). get_or s k 0) m in
-    rw (n, ← g) (take-suc (drop a s) (i - a) 0 (rw length-drop (omega arith)))
-
-split_at : (c : ℕ) (s : List ℕ) (i : ℕ) → i < length s → get_or s i 0 ≡ c → split c (drop i s) ≡ [] ∷ split c (drop (i + 1) s)
-unfolding split
-split_at c s i h e = rw (add-one, drop-cons s i 0, eq-eqb (get_or s i 0) c e)
-
-split_past : (c : ℕ) (s : List ℕ) (i : ℕ) → i < length s → (get_or s i 0 ≡ c → ⊥) → split c (drop i s) ≡ in_first (get_or s i 0) (split c (drop (i + 1) s))
-unfolding split
-split_past c s i h e = rw (add-one, drop-cons s i 0, ne_eqb (get_or s i 0) c e)
-
 pub split_end : (c : ℕ) (s : List ℕ) (i : ℕ) → length s ≤ i → split c (drop i s) ≡ [] ∷ []
 unfolding split
 split_end c s i h = rw (drop_of_length-le s h)
 
--- ---- no byte c from index a up to index i
+-- ---- the first piece ends where the byte first stands
 
-pub record Passed (c : ℕ) (s : List ℕ) (a i : ℕ) : Type 0 where
-  pub from : a ≤ i
-  pub within : i ≤ length s
-  pub first : split c (drop a s) ≡ glue (part a i s) (split c (drop i s))
+-- a list is its first piece, from n on
+pub record First (c : ℕ) (l : List ℕ) (n : ℕ) : Type 0 where
+  pub within : n ≤ length l
+  pub more : n < length l → split c l ≡ take n l ∷ split c (drop (suc n) l)
+  pub last : length l ≤ n → split c l ≡ take n l ∷ []
 
-pub passed_none : (c : ℕ) (s : List ℕ) (a : ℕ) → a ≤ length s → Passed c s a a
-passed_none c s a h = record {
-  from = omega arith;
-  within = h;
-  first = let z : a - a ≡ 0 = omega arith in rw z (glue_none c (drop a s));
-}
+first : (c : ℕ) (l : List ℕ) → First c l (position_or_len (λ b. eqb b c) l)
+unfolding split
+first c [] = record { within = omega arith; more = λ k. absurd (omega arith); last = λ k. refl }
+first c (b ∷ l) = let r = by (eqb b c) (position_or_len (λ a. eqb a c) l) (first c l) in record { within = r.0; more = r.1; last = r.2 }
+  where
+    by : (t : Bool) (n : ℕ) → First c l n
+        → (cond (not t) (1 + n) 0 ≤ suc (length l))
+        × (cond (not t) (1 + n) 0 < suc (length l) → cond t ([] ∷ split c l) (in_first b (split c l)) ≡ take (cond (not t) (1 + n) 0) (b ∷ l) ∷ split c (drop (suc (cond (not t) (1 + n) 0)) (b ∷ l)))
+        × (suc (length l) ≤ cond (not t) (1 + n) 0 → cond t ([] ∷ split c l) (in_first b (split c l)) ≡ take (cond (not t) (1 + n) 0) (b ∷ l) ∷ [])
+    by true n f = (omega arith, λ h. refl, λ h. absurd (omega arith))
+    by false n f = (omega (arith, f.within), λ h. rw one-add (ap (in_first b) (f.more (omega arith))), λ h. rw one-add (ap (in_first b) (f.last (omega arith))))
 
-module _ {c : ℕ} {s : List ℕ} {a i : ℕ} (p : Passed c s a i) where
-  pub passed_more : i < length s → (get_or s i 0 ≡ c → ⊥) → Passed c s a (i + 1)
-  passed_more h n = record {
-    from = omega (arith, p.from);
-    within = omega arith;
-    first = p.first ∙ (rw (split_past c s i h n, part_more s a i p.from h) (glue_first _ _ _));
-  }
-
-  pub piece_found : i < length s → get_or s i 0 ≡ c → Piece c s a i
-  unfolding glue
-  piece_found h e = record {
-    from = p.from;
-    within = p.within;
-    more = λ k. p.first ∙ (rw (split_at c s i h e, append-nil));
-    last = λ k. absurd (omega arith);
-  }
-
-  pub piece_last : length s ≤ i → Piece c s a i
-  unfolding glue
-  piece_last h = record {
-    from = p.from;
-    within = p.within;
-    more = λ k. absurd (omega arith);
-    last = λ k. p.first ∙ (rw (split_end c s i h, append-nil));
-  }
+-- a piece from index a on ends where the byte first stands, or at the end
+pub piece_by : (c : ℕ) (s : List ℕ) (a e : ℕ) → a ≤ length s → e ≡ a + position_or_len (λ b. eqb b c) (drop a s) → Piece c s a e
+piece_by c s a e h q =
+    let f = first c (drop a s) in
+    let n : length (drop a s) ≡ length s - a = length-drop a s in
+    let p : position_or_len (λ b. eqb b c) (drop a s) ≡ e - a = omega arith in
+    let next : a + suc (e - a) ≡ e + 1 = omega arith in
+    let g : First c (drop a s) (e - a) = rw p at f in
+    record {
+      from = omega arith;
+      within = omega (arith, g.within);
+      more = λ k. g.more (omega arith) ∙ ap (λ (l : List ℕ). part a e s ∷ split c l) (drop-drop (suc (e - a)) a s ∙ ap (λ (i : ℕ). drop i s) next);
+      last = λ k. g.last (omega arith);
+    }
 
 -- ---- the fields behind an index
 

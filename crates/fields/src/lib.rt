@@ -1,57 +1,152 @@
 // The fields of a line: where one ends, and what it says, for each kind of field. A field follows the one that ends at index e.
 #![tactic(auto)]
 
-ghost use Rattle.std.specs.Prelude.{◌≡◌, ◌≤◌, length};
+ghost use Rattle.std.specs.Prelude.{◌≡◌, ◌==◌, ◌≤◌, ℕ, List, length, position};
+ghost use Rattle.std.proofs.Math.Option as math;
+ghost use Rattle.arith.specs.InCode.{as_option};
 ghost use Rattle.decimal.specs.Text.{same};
 ghost use Rattle.decimal.specs.Decimal.{read_number};
 ghost use Rattle.sheet.specs.Fields.{read_flag, read_type, read_length, read_stride, read_op, read_index, read_decoration};
 ghost use Rattle.fields.specs.Pieces.{Piece};
-ghost use Rattle.fields.specs.Took.{flag_in, number_in, length_in, stride_in, op_in, index_in, decoration_in, with_end, Took, TookBoth};
+ghost use Rattle.fields.specs.Took.{Stands, Took, TookBoth};
 
-use decimal::Reading;
 use spirv::{ChainOp, Decoration, Index, Length, Stride};
 
-// What a field says and the index at which it ends, if it is of its kind.
+// What a field says, and the index at which it ends.
 #[derive(Clone, Copy)]
-pub enum FlagAt {
-    Field(bool, usize),
-    Misread,
+pub struct Field<T> {
+    pub value: T,
+    pub end: usize,
 }
 
-#[derive(Clone, Copy)]
-pub enum NumberAt {
-    Field(u32, usize),
-    Misread,
+// What a field may say: a flag, a number, ..
+pub trait ReadField: Sized {
+    ghost read: { List ℕ → math.Option Self };
+
+    // What the field f says, if it is of this kind.
+    fn read(f: &[u8]) -> Option<Self>
+        ensures { result ≡ as_option (read f.now) };
+
+    // What the next field of a line says.
+    #[tactic(auto, using(crate::proofs::Took::next_field))]
+    fn next(line: &[u8], e: usize) -> Option<Field<Self>>
+        ensures { Took read line.now e result }
+    {
+        let f = piece(line, e)?;
+        let value = Self::read(f.value)?;
+        Some(Field { value, end: f.end })
+    }
 }
 
-#[derive(Clone, Copy)]
-pub enum LengthAt {
-    Field(Length, usize),
-    Misread,
+// ---- what one field says
+
+// The field f is this text.
+fn is(f: &[u8], text: &[u8]) -> bool
+    ensures { result ≡ same f.now text.now }
+{
+    f == text
 }
 
-#[derive(Clone, Copy)]
-pub enum StrideAt {
-    Field(Stride, usize),
-    Misread,
+// 0 or 1.
+impl ReadField for bool {
+    ghost read = { read_flag };
+
+    #[tactic(auto, unfolding(sheet::specs::Fields::read_flag))]
+    fn read(f: &[u8]) -> Option<bool> {
+        if is(f, b"0") {
+            return Some(false);
+        }
+        is(f, b"1").then_some(true)
+    }
 }
 
-#[derive(Clone, Copy)]
-pub enum OpAt {
-    Field(ChainOp, usize),
-    Misread,
+impl ReadField for u32 {
+    ghost read = { read_number };
+
+    fn read(f: &[u8]) -> Option<u32> {
+        decimal::read_number(f)
+    }
 }
 
-#[derive(Clone, Copy)]
-pub enum IndexAt {
-    Field(Index, usize),
-    Misread,
+// A number or `s`.
+impl ReadField for Length {
+    ghost read = { read_length };
+
+    #[tactic(auto, using(crate::proofs::Numbers::number_cases), unfolding(sheet::specs::Fields::read_length))]
+    fn read(f: &[u8]) -> Option<Length> {
+        if is(f, b"s") {
+            return Some(Length::Specialization);
+        }
+        decimal::read_number(f).map(Length::Fixed)
+    }
 }
 
-#[derive(Clone, Copy)]
-pub enum DecorationAt {
-    Field(Decoration, usize),
-    Misread,
+// A number or `-`.
+impl ReadField for Stride {
+    ghost read = { read_stride };
+
+    #[tactic(auto, using(crate::proofs::Numbers::number_cases), unfolding(sheet::specs::Fields::read_stride))]
+    fn read(f: &[u8]) -> Option<Stride> {
+        if is(f, b"-") {
+            return Some(Stride::Undecorated);
+        }
+        decimal::read_number(f).map(Stride::Decorated)
+    }
+}
+
+// 65, 66, 67 or 70.
+impl ReadField for ChainOp {
+    ghost read = { read_op };
+
+    #[tactic(auto, unfolding(sheet::specs::Fields::read_op))]
+    fn read(f: &[u8]) -> Option<ChainOp> {
+        if is(f, b"65") {
+            return Some(ChainOp::AccessChain);
+        }
+        if is(f, b"66") {
+            return Some(ChainOp::InBoundsAccessChain);
+        }
+        if is(f, b"67") {
+            return Some(ChainOp::PtrAccessChain);
+        }
+        is(f, b"70").then_some(ChainOp::InBoundsPtrAccessChain)
+    }
+}
+
+// A known word, or `v` and an unknown's number.
+impl ReadField for Index {
+    ghost read = { read_index };
+
+    #[tactic(auto, using(crate::proofs::Numbers::indices))]
+    fn read(f: &[u8]) -> Option<Index> {
+        match f.strip_prefix(b"v") {
+            Some(unknown) => decimal::read_number(unknown).map(Index::Unknown),
+            None => decimal::read_number(f).map(Index::Known),
+        }
+    }
+}
+
+// A decoration's number and its value.
+#[tactic(auto, using(crate::proofs::Numbers::number_cases), unfolding(sheet::specs::Fields::read_decoration))]
+fn decoration(number: &[u8], value: &[u8]) -> Option<Decoration>
+    ensures { result ≡ as_option (read_decoration number.now value.now) }
+{
+    if is(number, b"4") {
+        return is(value, b"-").then_some(Decoration::RowMajor);
+    }
+    if is(number, b"35") {
+        return decimal::read_number(value).map(Decoration::Offset);
+    }
+    None
+}
+
+// ---- the next field of a line
+
+// Where the byte c first stands.
+fn place(s: &[u8], c: u8) -> Option<usize>
+    ensures { result ≡ position (λ b. b == c) s.now }
+{
+    s.iter().position(|b| *b == c)
 }
 
 // Where the piece that starts at `at` ends: at the next byte c, or at the end.
@@ -59,243 +154,39 @@ pub fn piece_end(s: &[u8], at: usize, c: u8) -> usize
     requires { at ≤ length s.now }
     ensures { Piece c s.now at result }
 {
-    let mut i = at;
-    while i < s.len() {
-        if s[i] == c {
-            return i;
-        }
-        i += 1;
-    }
-    i
+    place(&s[at..], c).map_or(s.len(), |n| at + n)
 }
 
-// The field f is this text.
-fn is(f: &[u8], text: &[u8]) -> bool
-    ensures { result ≡ same f.now text.now }
-{
-    if f.len() != text.len() {
-        return false;
-    }
-    let mut i = 0;
-    while i < f.len() {
-        if f[i] != text[i] {
-            return false;
-        }
-        i += 1;
-    }
-    true
-}
-
-// ---- one field, which ends at `end`
-
-fn flag_of(f: &[u8], end: usize) -> FlagAt
-    ensures { flag_in result ≡ with_end end (read_flag f.now) }
-{
-    if is(f, b"0") {
-        return FlagAt::Field(false, end);
-    }
-    if is(f, b"1") {
-        return FlagAt::Field(true, end);
-    }
-    FlagAt::Misread
-}
-
-fn number_of(f: &[u8], end: usize) -> NumberAt
-    ensures { number_in result ≡ with_end end (read_number f.now) }
-{
-    match decimal::read_number(f) {
-        Reading::Value(n) => NumberAt::Field(n, end),
-        Reading::Misread => NumberAt::Misread,
-    }
-}
-
-// A number below that of the types above.
-fn lower_of(f: &[u8], above: u32, end: usize) -> NumberAt
-    ensures { number_in result ≡ with_end end (read_type above f.now) }
-{
-    let Reading::Value(n) = decimal::read_number(f) else {
-        return NumberAt::Misread;
-    };
-    if n < above {
-        return NumberAt::Field(n, end);
-    }
-    NumberAt::Misread
-}
-
-fn length_of(f: &[u8], end: usize) -> LengthAt
-    ensures { length_in result ≡ with_end end (read_length f.now) }
-{
-    if is(f, b"s") {
-        return LengthAt::Field(Length::Specialization, end);
-    }
-    match decimal::read_number(f) {
-        Reading::Value(n) => LengthAt::Field(Length::Fixed(n), end),
-        Reading::Misread => LengthAt::Misread,
-    }
-}
-
-fn stride_of(f: &[u8], end: usize) -> StrideAt
-    ensures { stride_in result ≡ with_end end (read_stride f.now) }
-{
-    if is(f, b"-") {
-        return StrideAt::Field(Stride::Undecorated, end);
-    }
-    match decimal::read_number(f) {
-        Reading::Value(n) => StrideAt::Field(Stride::Decorated(n), end),
-        Reading::Misread => StrideAt::Misread,
-    }
-}
-
-fn op_of(f: &[u8], end: usize) -> OpAt
-    ensures { op_in result ≡ with_end end (read_op f.now) }
-{
-    if is(f, b"65") {
-        return OpAt::Field(ChainOp::AccessChain, end);
-    }
-    if is(f, b"66") {
-        return OpAt::Field(ChainOp::InBoundsAccessChain, end);
-    }
-    if is(f, b"67") {
-        return OpAt::Field(ChainOp::PtrAccessChain, end);
-    }
-    if is(f, b"70") {
-        return OpAt::Field(ChainOp::InBoundsPtrAccessChain, end);
-    }
-    OpAt::Misread
-}
-
-fn index_of(f: &[u8], end: usize) -> IndexAt
-    ensures { index_in result ≡ with_end end (read_index f.now) }
-{
-    if f.len() == 0 {
-        return IndexAt::Misread;
-    }
-    if f[0] == b'v' {
-        return match decimal::read_number(&f[1..]) {
-            Reading::Value(n) => IndexAt::Field(Index::Unknown(n), end),
-            Reading::Misread => IndexAt::Misread,
-        };
-    }
-    match decimal::read_number(f) {
-        Reading::Value(n) => IndexAt::Field(Index::Known(n), end),
-        Reading::Misread => IndexAt::Misread,
-    }
-}
-
-// A decoration's number and its value.
-fn decoration_of(f: &[u8], value: &[u8], end: usize) -> DecorationAt
-    ensures { decoration_in result ≡ with_end end (read_decoration f.now value.now) }
-{
-    if is(f, b"4") {
-        if is(value, b"-") {
-            return DecorationAt::Field(Decoration::RowMajor, end);
-        }
-        return DecorationAt::Misread;
-    }
-    if is(f, b"35") {
-        return match decimal::read_number(value) {
-            Reading::Value(n) => DecorationAt::Field(Decoration::Offset(n), end),
-            Reading::Misread => DecorationAt::Misread,
-        };
-    }
-    DecorationAt::Misread
-}
-
-// ---- the next field of a line
-
-pub fn flag_at(line: &[u8], e: usize) -> FlagAt
-    ensures { Took read_flag line.now e (flag_in result) }
+// The next field as it stands.
+fn piece(line: &[u8], e: usize) -> Option<Field<&[u8]>>
+    ensures { Stands line.now e result }
 {
     if line.len() <= e {
-        return FlagAt::Misread;
+        return None;
     }
-    let at = e + 1;
-    let end = piece_end(line, at, b',');
-    flag_of(&line[at..end], end)
-}
-
-pub fn number_at(line: &[u8], e: usize) -> NumberAt
-    ensures { Took read_number line.now e (number_in result) }
-{
-    if line.len() <= e {
-        return NumberAt::Misread;
-    }
-    let at = e + 1;
-    let end = piece_end(line, at, b',');
-    number_of(&line[at..end], end)
+    let end = piece_end(line, e + 1, b',');
+    Some(Field {
+        value: &line[e + 1..end],
+        end,
+    })
 }
 
 // The number of a type above.
-pub fn type_at(line: &[u8], e: usize, above: u32) -> NumberAt
-    ensures { Took (read_type above) line.now e (number_in result) }
+#[tactic(auto, using(crate::proofs::Took::next_type))]
+pub fn type_at(line: &[u8], e: usize, above: u32) -> Option<Field<u32>>
+    ensures { Took (read_type above) line.now e result }
 {
-    if line.len() <= e {
-        return NumberAt::Misread;
-    }
-    let at = e + 1;
-    let end = piece_end(line, at, b',');
-    lower_of(&line[at..end], above, end)
-}
-
-// A number or `s`.
-pub fn length_at(line: &[u8], e: usize) -> LengthAt
-    ensures { Took read_length line.now e (length_in result) }
-{
-    if line.len() <= e {
-        return LengthAt::Misread;
-    }
-    let at = e + 1;
-    let end = piece_end(line, at, b',');
-    length_of(&line[at..end], end)
-}
-
-// A number or `-`.
-pub fn stride_at(line: &[u8], e: usize) -> StrideAt
-    ensures { Took read_stride line.now e (stride_in result) }
-{
-    if line.len() <= e {
-        return StrideAt::Misread;
-    }
-    let at = e + 1;
-    let end = piece_end(line, at, b',');
-    stride_of(&line[at..end], end)
-}
-
-pub fn op_at(line: &[u8], e: usize) -> OpAt
-    ensures { Took read_op line.now e (op_in result) }
-{
-    if line.len() <= e {
-        return OpAt::Misread;
-    }
-    let at = e + 1;
-    let end = piece_end(line, at, b',');
-    op_of(&line[at..end], end)
-}
-
-pub fn index_at(line: &[u8], e: usize) -> IndexAt
-    ensures { Took read_index line.now e (index_in result) }
-{
-    if line.len() <= e {
-        return IndexAt::Misread;
-    }
-    let at = e + 1;
-    let end = piece_end(line, at, b',');
-    index_of(&line[at..end], end)
+    let f = u32::next(line, e)?;
+    (f.value < above).then_some(f)
 }
 
 // The next two fields, a decoration's number and its value.
-pub fn decoration_at(line: &[u8], e: usize) -> DecorationAt
-    ensures { TookBoth line.now e (decoration_in result) }
+#[tactic(auto, using(crate::proofs::Took::next_two))]
+pub fn decoration_at(line: &[u8], e: usize) -> Option<Field<Decoration>>
+    ensures { TookBoth line.now e result }
 {
-    if line.len() <= e {
-        return DecorationAt::Misread;
-    }
-    let at = e + 1;
-    let between = piece_end(line, at, b',');
-    if line.len() <= between {
-        return DecorationAt::Misread;
-    }
-    let next = between + 1;
-    let end = piece_end(line, next, b',');
-    decoration_of(&line[at..between], &line[next..end], end)
+    let number = piece(line, e)?;
+    let f = piece(line, number.end)?;
+    let value = decoration(number.value, f.value)?;
+    Some(Field { value, end: f.end })
 }
