@@ -21,7 +21,7 @@ by_size f k n behind r small large = by_test (ltb n 10) refl
     by_test true e = small (ltb-true n 10 e)
     by_test false e = large (ltb-false n 10 e)
 
-spells : (k n : ℕ) (behind : List ℕ) → n < k → spelled 0 (digits_before k n behind) ≡ spelled n behind
+pub spells : (k n : ℕ) (behind : List ℕ) → n < k → spelled 0 (digits_before k n behind) ≡ spelled n behind
 spells zero n behind h = absurd (omega arith)
 spells (suc k) n behind h =
     by_size (spelled 0) k n behind _

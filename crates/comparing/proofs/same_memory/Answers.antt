@@ -1,18 +1,15 @@
--- `comparing::same_memory` meets its contract: the first number that differs decides. Assumes nothing.
-use mathlib.Core.Path.{sym, ◌∙◌}
+-- `comparing::same_memory` meets its contract: each number that is compared is one that is printed. Assumes nothing.
+use Rattle.std.proofs.Common.{◌∙◌}
+use Rattle.printing.specs.Layouts.{memory_in}
+use Rattle.comparing.proofs.SameLines.{sizes_differ, then_parts}
 use Rattle.comparing.proofs.same_memory.Goals as goal
 
-pub returns-then-not-same_number : goal.returns-then-not-same_number
-returns-then-not-same_number c = rw (sym c.same_number.ensures ∙ c.if-not-same_number.true)
+pub returns-then-eq : goal.returns-then-eq
+returns-then-eq c =
+    let l = c.args.offsets.now in
+    c.eq-then-eq.ensures ∙ then_parts (memory_in l c.args.m) (memory_in l c.args.n) _ _ c.if-eq.ensures c.last_numbers.ensures c.last_numbers-then-eq.ensures
 
-pub returns-then-not-same_number-2 : goal.returns-then-not-same_number-2
-returns-then-not-same_number-2 c = rw (sym c.same_number.ensures ∙ c.if-not-same_number.false, sym c.same_number-2.ensures ∙ c.if-not-same_number-2.true)
-
-pub returns-then-not-same_number-3 : goal.returns-then-not-same_number-3
-returns-then-not-same_number-3 c = rw (sym c.same_number.ensures ∙ c.if-not-same_number.false, sym c.same_number-2.ensures ∙ c.if-not-same_number-2.false, sym c.same_number-3.ensures ∙ c.if-not-same_number-3.true)
-
-pub returns-then-not-same_number-4 : goal.returns-then-not-same_number-4
-returns-then-not-same_number-4 c = rw (sym c.same_number.ensures ∙ c.if-not-same_number.false, sym c.same_number-2.ensures ∙ c.if-not-same_number-2.false, sym c.same_number-3.ensures ∙ c.if-not-same_number-3.false, sym c.same_number-4.ensures ∙ c.if-not-same_number-4.true)
-
-pub returns : goal.returns
-returns c = rw (sym c.same_number.ensures ∙ c.if-not-same_number.false, sym c.same_number-2.ensures ∙ c.if-not-same_number-2.false, sym c.same_number-3.ensures ∙ c.if-not-same_number-3.false, sym c.same_number-4.ensures ∙ c.if-not-same_number-4.false) c.same_parts.ensures
+pub returns-else-eq : goal.returns-else-eq
+returns-else-eq c =
+    let l = c.args.offsets.now in
+    c.if-eq.false ∙ sizes_differ (memory_in l c.args.m) (memory_in l c.args.n) c.if-eq.ensures
