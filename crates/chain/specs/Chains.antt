@@ -1,21 +1,20 @@
 -- What the walk of a chain comes to over tables, and the measures of its two parts.
-use Rattle.std.specs.Prelude.{ℕ, ◌+◌, ◌-◌, ◌*◌, ◌≤◌, min, ◌≡◌, List, [], ◌∷◌, ltb, length, drop}
+use Rattle.std.specs.Prelude.{ℕ, ◌+◌, ◌-◌, ◌*◌, ◌≤◌, min, ◌≡◌, List, [], ◌∷◌, ltb, length, drop, None, Ok, Err}
 use Rattle.arith.specs.Refusals.{Result, ok, refused, ◌>>◌, refuse◌when◌, oversize}
+use Rattle.arith.specs.InCode.{OrRefusal}
 use Rattle.spirv.specs.declared.Index.{Index}
 use Rattle.shapes.specs.declared.TypeLayout.{TypeLayout}
 use Rattle.places.specs.declared.Place.{Place}
 use Rattle.places.specs.declared.Place.TheVariants.{Memory, Buffer, Buffers, Opaque, Opaques}
 use Rattle.places.specs.Places.{layout_at}
 use Rattle.lower.specs.declared.QPtrOp.{QPtrOp}
-use Rattle.lower.specs.declared.Pending.{Pending}
-use Rattle.lower.specs.declared.Pending.TheVariants.{Empty}
 use Rattle.shapes.specs.Rows.{answer_at}
 use Rattle.shapes.specs.Spans.{spans_of, layout_by, answer_by}
-use Rattle.lower.specs.Steps.{flush, lower_from}
+use Rattle.lower.specs.Steps.{Pending, flush, lower_from}
 use Rattle.moves.specs.Moves.{indices_in}
 use Rattle.moves.specs.Written.{before, in_room_behind}
 use Rattle.chain.specs.declared.Run.{Run}
-use Rattle.chain.specs.declared.Run.TheVariants.{Refused, Ended, Gives}
+use Rattle.chain.specs.declared.Run.TheVariants.{Ended, Gives}
 
 -- ---- measures
 
@@ -53,7 +52,7 @@ on_from layouts offsets members types chain at l p = chain_from layouts offsets 
 unfoldable pub chain_of : (room : ℕ) (layouts offsets members : List ℕ) (types : ℕ) → Place → (chain : List ℕ) → Result (List QPtrOp)
 chain_of room layouts offsets members types l chain = do
   refuse oversize when ltb 510 (length chain)
-  in_room_behind room 0 (on_from layouts offsets members types chain 0 l Empty)
+  in_room_behind room 0 (on_from layouts offsets members types chain 0 l None)
 
 -- the places that all five lists have
 abbrev pub room_of : (ks bs ls ms is : List ℕ) → ℕ
@@ -62,17 +61,17 @@ room_of ks bs ls ms is = min (length ks) (min (length bs) (min (length ls) (min 
 -- ---- how far a walk gets without a step
 
 module _ (layouts offsets members : List ℕ) (types : ℕ) (chain : List ℕ) where
-  abbrev pub ran_on : Run → Result (List QPtrOp)
-  ran_on (Refused e) = refused e
-  ran_on (Ended q) = ok (flush q [])
-  ran_on (Gives q u s at) = before (flush q (s ∷ [])) (on_from layouts offsets members types chain at u Empty)
+  abbrev pub ran_on : OrRefusal Run → Result (List QPtrOp)
+  ran_on (Err e) = refused e.number
+  ran_on (Ok (Ended q)) = ok (flush q [])
+  ran_on (Ok (Gives q u s at)) = before (flush q (s ∷ [])) (on_from layouts offsets members types chain at u None)
 
   -- a step takes an index, or enters a buffer
-  abbrev pub Falls : (from : ℕ) → Place → Run → Type 0
-  Falls from l (Refused e) = Unit {0}
-  Falls from l (Ended q) = Unit {0}
-  Falls from l (Gives q u s at) = (at ≤ length chain) × (left (length chain) at u + 2 ≤ left (length chain) from l)
+  abbrev pub Falls : (from : ℕ) → Place → OrRefusal Run → Type 0
+  Falls from l (Err e) = Unit {0}
+  Falls from l (Ok (Ended q)) = Unit {0}
+  Falls from l (Ok (Gives q u s at)) = (at ≤ length chain) × (left (length chain) at u + 2 ≤ left (length chain) from l)
 
-  pub record Ran (from : ℕ) (l : Place) (p : Pending) (r : Run) : Type 0 where
+  pub record Ran (from : ℕ) (l : Place) (p : Pending) (r : OrRefusal Run) : Type 0 where
     pub goes : on_from layouts offsets members types chain from l p ≡ ran_on r
     pub falls : Falls from l r

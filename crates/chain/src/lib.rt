@@ -1,22 +1,22 @@
 // Chains lowered over tables of layouts: a struct part and an array part hand the walk to each other (try_lower_access_chain of lower.rs).
 #![tactic(auto)]
 
-ghost use Rattle.std.specs.Prelude.{◌≡◌, [], ◌∷◌, ◌+◌, length};
+ghost use Rattle.std.specs.Prelude.{◌≡◌, [], ◌∷◌, ◌+◌, length, None};
 ghost use Rattle.lower.specs.Steps.{flush};
 ghost use Rattle.moves.specs.Written.{Wrote, before, in_room_behind};
 ghost use Rattle.chain.specs.Chains.{Within, Few, Ran, on_from, chain_of, room_of};
 
-use lower::{Pending, QPtrOp};
-use moves::{Move, Walk};
+use arith::refusal::Refusal;
+use lower::QPtrOp;
+use moves::Move;
 use places::Place;
 
-// How far a walk gets without a step: it is refused; it ends, this offset waiting; or it gives a step behind what waits, and goes on from there.
+// How far a walk gets without a step: it ends, this offset waiting; or it gives a step behind what waits, and goes on from there.
 #[derive(Clone, Copy)]
 pub enum Run {
-    Refused(u32),
-    Ended(Pending),
+    Ended(Option<i32>),
     Gives {
-        waiting: Pending,
+        waiting: Option<i32>,
         place: Place,
         step: QPtrOp,
         at: usize,
@@ -32,44 +32,40 @@ fn go_on(
     chain: &[u32],
     from: usize,
     l: Place,
-    p: Pending,
-) -> Run
+    p: Option<i32>,
+) -> Result<Run, Refusal>
     requires { Within from (length chain.now) }
     ensures { Ran layouts.now offsets.now members.now types chain.now from l p result }
 {
-    let mut at = from;
     let mut u = l;
     let mut q = p;
-    while at + 2 <= chain.len() {
-        let i = moves::index_of(chain[at], chain[at + 1]);
-        match moves::next_move(layouts, types, offsets, members, u, i, q) {
-            Move::Reject(e) => {
-                return Run::Refused(e);
-            }
+    for (k, index) in chain[from..].chunks_exact(2).enumerate() {
+        let at = from + 2 * k;
+        let i = moves::index_of(index[0], index[1]);
+        match moves::next_move(layouts, types, offsets, members, u, i, q)? {
             Move::Onward(v, w) => {
                 u = v;
                 q = w;
-                at += 2;
             }
             Move::Emit(v, s) => {
-                return Run::Gives {
+                return Ok(Run::Gives {
                     waiting: q,
                     place: v,
                     step: s,
                     at: at + 2,
-                };
+                });
             }
             Move::Inside(c) => {
-                return Run::Gives {
+                return Ok(Run::Gives {
                     waiting: q,
                     place: Place::Memory(c),
                     step: QPtrOp::BufferData,
                     at,
-                };
+                });
             }
         }
     }
-    Run::Ended(q)
+    Ok(Run::Ended(q))
 }
 
 // The struct part: fields, and elements at constant places, which are as fields are. It hands an index that gives a step to the array part.
@@ -82,7 +78,7 @@ fn struct_part(
     chain: &[u32],
     from: usize,
     l: Place,
-    p: Pending,
+    p: Option<i32>,
     n: usize,
     room: usize,
     kinds: &mut [u32],
@@ -90,12 +86,11 @@ fn struct_part(
     bounds: &mut [u32],
     marks: &mut [u32],
     indices: &mut [u32],
-) -> Walk
+) -> Result<usize, Refusal>
     requires { Within from (length chain.now) × Few n (length chain.now) from l }
     ensures { Wrote n (in_room_behind room n (on_from layouts.now offsets.now members.now types chain.now from l p)) result kinds.old bytes.old bounds.old marks.old indices.old kinds.new bytes.new bounds.new marks.new indices.new }
 {
-    match go_on(layouts, types, offsets, members, chain, from, l, p) {
-        Run::Refused(e) => Walk::Refused(e),
+    match go_on(layouts, types, offsets, members, chain, from, l, p)? {
         Run::Ended(q) => moves::finish(q, n, room, kinds, bytes, bounds, marks, indices),
         Run::Gives {
             waiting,
@@ -119,7 +114,7 @@ fn array_part(
     chain: &[u32],
     at: usize,
     l: Place,
-    p: Pending,
+    p: Option<i32>,
     s: QPtrOp,
     n: usize,
     room: usize,
@@ -128,27 +123,14 @@ fn array_part(
     bounds: &mut [u32],
     marks: &mut [u32],
     indices: &mut [u32],
-) -> Walk
+) -> Result<usize, Refusal>
     requires { Within at (length chain.now) × Few (n + 2) (length chain.now) at l }
-    ensures { Wrote n (in_room_behind room n (before (flush p (s ∷ [])) (on_from layouts.now offsets.now members.now types chain.now at l Pending.Empty))) result kinds.old bytes.old bounds.old marks.old indices.old kinds.new bytes.new bounds.new marks.new indices.new }
+    ensures { Wrote n (in_room_behind room n (before (flush p (s ∷ [])) (on_from layouts.now offsets.now members.now types chain.now at l None))) result kinds.old bytes.old bounds.old marks.old indices.old kinds.new bytes.new bounds.new marks.new indices.new }
 {
     let next = moves::after(p, n) + 1;
     let r = struct_part(
-        layouts,
-        types,
-        offsets,
-        members,
-        chain,
-        at,
-        l,
-        Pending::Empty,
-        next,
-        room,
-        kinds,
-        bytes,
-        bounds,
-        marks,
-        indices,
+        layouts, types, offsets, members, chain, at, l, None, next, room, kinds, bytes, bounds,
+        marks, indices,
     );
     moves::prefix(r, p, s, n, kinds, bytes, bounds, marks, indices)
 }
@@ -166,29 +148,20 @@ pub fn lower_from(
     bounds: &mut [u32],
     marks: &mut [u32],
     indices: &mut [u32],
-) -> Walk
+) -> Result<usize, Refusal>
     ensures { Wrote 0 (chain_of (room_of kinds.old bytes.old bounds.old marks.old indices.old) layouts.now offsets.now members.now types l chain.now) result kinds.old bytes.old bounds.old marks.old indices.old kinds.new bytes.new bounds.new marks.new indices.new }
 {
     if 510 < chain.len() {
-        return Walk::Refused(2);
+        return Err(Refusal::OVERSIZE);
     }
-    let most = arith::smaller(bounds.len(), arith::smaller(marks.len(), indices.len()));
-    let room = arith::smaller(kinds.len(), arith::smaller(bytes.len(), most));
+    let room = kinds
+        .len()
+        .min(bytes.len())
+        .min(bounds.len())
+        .min(marks.len())
+        .min(indices.len());
     struct_part(
-        layouts,
-        types,
-        offsets,
-        members,
-        chain,
-        0,
-        l,
-        Pending::Empty,
-        0,
-        room,
-        kinds,
-        bytes,
-        bounds,
-        marks,
+        layouts, types, offsets, members, chain, 0, l, None, 0, room, kinds, bytes, bounds, marks,
         indices,
     )
 }

@@ -1,57 +1,51 @@
--- `chain::go_on` meets its contract. The loop's invariant: what is left of the walk comes to the same as the whole. Assumes nothing.
-use native.Mathlib.Omega.{arith}
-use mathlib.Core.Path.{refl, sym, ◌∙◌}
+-- `chain::go_on` meets its contract: each move leads on as the definitions' walk. Assumes nothing.
+use Rattle.std.proofs.Common.{rules, ◌≡◌, ◌+◌, ◌*◌, ◌-◌, length, arith, take, drop, Ok, Err, refl, ap, length-drop}
+use Rattle.std.proofs.lemmas.Grind.{common_steps}
+use mathlib.Core.Path.{sym, ◌∙◌}
 use Rattle.chain.proofs.Chains.{walk_ends, walk_goes, weight_most, entered}
 use Rattle.chain.proofs.go_on.Goals as goal
 
-pub loop-at-init : goal.loop-at-init
-loop-at-init c = (c.requires.0, omega arith, refl)
+pub loop-k-init : goal.loop-k-init
+loop-k-init c =
+    let start : c.args.from + 2 * 0 ≡ c.args.from = omega arith in
+    let all : take (length c.args.chain.now - c.args.from) (drop c.args.from c.args.chain.now) ≡ drop c.args.from c.args.chain.now = grind (arith, common_steps) in
+    rw (c.into_iter-k-iterator.ensures.into_iter_gives, c.enumerate-k-items.ensures.source, c.enumerate-k-items.ensures.count, start)
+    (c.chunks_exact.ensures.size, c.chunks_exact.ensures.rest ∙ all, c.requires.0, omega arith, refl)
 
-pub overflow_add-at : goal.overflow_add-at
-overflow_add-at c = omega (arith, c.requires.1, c.loop-at.invariant.0)
+pub returns-in_err-v : goal.returns-in_err-v
+returns-in_err-v c =
+    let s = c.in-Some.ensures.steps in
+    let i = c.loop-k.invariant in
+    let g = walk_goes _ _ _ _ _ _ c.loop-k.u c.loop-k.q _ _ (s.0.1.1 ∙ i.0) (sym i.1 ∙ s.0.1.0) c.index_of-i.ensures c.next_move.ensures c.in_err-v.was in
+    let e : c.from_residual.result ≡ Err c.in_err-v.field-0.0 = search rules in
+    rw e record { goes = i.4 ∙ g.goes; falls = tt }
 
-pub bounds-chain-at : goal.bounds-chain-at
-bounds-chain-at c = omega (arith, c.loop-at-test.true)
-
-pub overflow_add-at-in-loop-at : goal.overflow_add-at-in-loop-at
-overflow_add-at-in-loop-at c = omega (arith, c.requires.1, c.loop-at.invariant.0)
-
-pub bounds-chain-at-in-loop-at : goal.bounds-chain-at-in-loop-at
-bounds-chain-at-in-loop-at c = omega (arith, c.loop-at-test.true)
-
-pub returns-in-Reject : goal.returns-in-Reject
-returns-in-Reject c = record {
-  goes = c.loop-at.invariant.2 ∙ walk_goes _ _ _ _ _ c.loop-at.at c.loop-at.u c.loop-at.q (omega (arith, c.loop-at-test.true)) c.index_of-i.ensures c.next_move.ensures c.in-Reject.is;
-  falls = tt;
-}
-
-pub overflow_add-at-in-Onward : goal.overflow_add-at-in-Onward
-overflow_add-at-in-Onward c = omega (arith, c.requires.1, c.loop-at.invariant.0)
-
-pub loop-at-smaller : goal.loop-at-smaller
-loop-at-smaller c = omega (arith, c.loop-at-test.true)
-
-pub loop-at-preserved : goal.loop-at-preserved
-loop-at-preserved c = (
-  omega (arith, c.loop-at-test.true),
-  omega (arith, c.loop-at-test.true, c.loop-at.invariant.1, weight_most c.in-Onward.v),
-  c.loop-at.invariant.2 ∙ walk_goes _ _ _ _ _ c.loop-at.at c.loop-at.u c.loop-at.q (omega (arith, c.loop-at-test.true)) c.index_of-i.ensures c.next_move.ensures c.in-Onward.is,
-)
-
-pub overflow_add-result : goal.overflow_add-result
-overflow_add-result c = omega (arith, c.requires.1, c.loop-at.invariant.0)
+pub loop-k-preserved : goal.loop-k-preserved
+loop-k-preserved c =
+    let s = c.in-Some.ensures.steps in
+    let i = c.loop-k.invariant in
+    let g = walk_goes _ _ _ _ _ _ c.loop-k.u c.loop-k.q _ _ (s.0.1.1 ∙ i.0) (sym i.1 ∙ s.0.1.0) c.index_of-i.ensures c.next_move.ensures (c.in_ok-v.was ∙ ap Ok c.in-Onward.is) in
+    let next : c.args.from + 2 * c.next.new.self.count ≡ c.args.from + 2 * c.loop-k.k-iterator.count + 2 = omega (arith, s.2) in
+    rw next (s.0.0 ∙ i.0, g.behind, g.fits, omega (arith, g.fits, i.3, weight_most c.in-Onward.v), i.4 ∙ g.goes)
 
 pub returns-in-Emit : goal.returns-in-Emit
-returns-in-Emit c = record {
-  goes = c.loop-at.invariant.2 ∙ walk_goes _ _ _ _ _ c.loop-at.at c.loop-at.u c.loop-at.q (omega (arith, c.loop-at-test.true)) c.index_of-i.ensures c.next_move.ensures c.in-Emit.is;
-  falls = (omega (arith, c.loop-at-test.true), omega (arith, c.loop-at-test.true, c.loop-at.invariant.1, weight_most c.in-Emit.v));
-}
+returns-in-Emit c =
+    let s = c.in-Some.ensures.steps in
+    let i = c.loop-k.invariant in
+    let g = walk_goes _ _ _ _ _ _ c.loop-k.u c.loop-k.q _ _ (s.0.1.1 ∙ i.0) (sym i.1 ∙ s.0.1.0) c.index_of-i.ensures c.next_move.ensures (c.in_ok-v.was ∙ ap Ok c.in-Emit.is) in
+    rw s.1 record { goes = i.4 ∙ g.goes; falls = (g.fits, omega (arith, g.fits, i.3, weight_most c.in-Emit.v)) }
 
 pub returns-in-Inside : goal.returns-in-Inside
-returns-in-Inside c = record {
-  goes = c.loop-at.invariant.2 ∙ walk_goes _ _ _ _ _ c.loop-at.at c.loop-at.u c.loop-at.q (omega (arith, c.loop-at-test.true)) c.index_of-i.ensures c.next_move.ensures c.in-Inside.is;
-  falls = (c.loop-at.invariant.0, omega (arith, c.loop-at.invariant.1, entered _ _ _ c.loop-at.u _ _ _ (sym c.next_move.ensures ∙ c.in-Inside.is)));
-}
+returns-in-Inside c =
+    let s = c.in-Some.ensures.steps in
+    let i = c.loop-k.invariant in
+    let m = c.in_ok-v.was ∙ ap Ok c.in-Inside.is in
+    let g = walk_goes _ _ _ _ _ _ c.loop-k.u c.loop-k.q _ _ (s.0.1.1 ∙ i.0) (sym i.1 ∙ s.0.1.0) c.index_of-i.ensures c.next_move.ensures m in
+    rw s.1 record { goes = i.4 ∙ g.goes; falls = (i.2, omega (arith, i.3, entered _ _ _ c.loop-k.u _ _ _ (sym c.next_move.ensures ∙ m))) }
 
 pub returns : goal.returns
-returns c = record { goes = c.loop-at.invariant.2 ∙ walk_ends _ _ _ _ _ c.loop-at.at c.loop-at.u c.loop-at.q (omega (arith, c.loop-at-test.false)); falls = tt }
+returns c =
+    let i = c.loop-k.invariant in
+    let at = c.args.from + 2 * c.loop-k.k-iterator.count in
+    let none = walk_ends _ _ _ _ _ at c.loop-k.u c.loop-k.q (omega (arith, c.in-None.ensures.steps.0.1.0, i.0, ap length i.1, length-drop at c.args.chain.now)) in
+    record { goes = i.4 ∙ none; falls = tt }
