@@ -40,7 +40,7 @@ pub record First (c : ℕ) (l : List ℕ) (n : ℕ) : Type 0 where
   pub more : n < length l → split c l ≡ take n l ∷ split c (drop (suc n) l)
   pub last : length l ≤ n → split c l ≡ take n l ∷ []
 
-first : (c : ℕ) (l : List ℕ) → First c l (position_or_len (λ b. eqb b c) l)
+pub first : (c : ℕ) (l : List ℕ) → First c l (position_or_len (λ b. eqb b c) l)
 unfolding split
 first c [] = record { within = omega arith; more = λ k. absurd (omega arith); last = λ k. refl }
 first c (b ∷ l) = let r = by (eqb b c) (position_or_len (λ a. eqb a c) l) (first c l) in record { within = r.0; more = r.1; last = r.2 }

@@ -7,6 +7,7 @@ ghost use Rattle.arith.specs.InCode.{as_option};
 ghost use Rattle.decimal.specs.Text.{same};
 ghost use Rattle.decimal.specs.Decimal.{read_number};
 ghost use Rattle.sheet.specs.Fields.{read_flag, read_type, read_length, read_stride, read_op, read_index, read_decoration};
+ghost use Rattle.fields.specs.Lines.{LineAt};
 ghost use Rattle.fields.specs.Pieces.{Piece};
 ghost use Rattle.fields.specs.Took.{Stands, Took, TookBoth};
 
@@ -155,6 +156,16 @@ pub fn piece_end(s: &[u8], at: usize, c: u8) -> usize
     ensures { Piece c s.now at result }
 {
     place(&s[at..], c).map_or(s.len(), |n| at + n)
+}
+
+// The line that starts at `at`, without its LF; none where no LF follows.
+#[tactic(auto, using(crate::proofs::Lines::past_end, crate::proofs::Lines::no_line))]
+pub fn line_at(s: &[u8], at: usize) -> Option<&[u8]>
+    ensures { LineAt s.now at result }
+{
+    let rest = s.get(at..)?;
+    let n = place(rest, b'\n')?;
+    Some(&rest[..n])
 }
 
 // The next field as it stands.
