@@ -2,7 +2,7 @@
 use mathlib.Core.Path.{◌≡◌, refl}
 use mathlib.Core.Bool.{true, false}
 use mathlib.Core.List.{[], ◌∷◌}
-use mathlib.Core.Option.{none, some}
+use Rattle.std.specs.Prelude.{Some, None}
 use lib.IntN.{negsuc}
 use Rattle.decimal.specs.Text.{bytes}
 use Rattle.spirv.specs.declared.Index.TheVariants.{Known, Unknown}
@@ -36,11 +36,11 @@ array_length_lem : length_text 4 16 ≡ bytes "l,4,16\n"
 unfolding opened
 array_length_lem = refl
 
-variable : variable_text (some (record { align = 4; legacy_align = 16; size = 12 })) ≡ bytes "x,12,4,16\n"
+variable : variable_text (Some (record { align = 4; legacy_align = 16; size = 12 })) ≡ bytes "x,12,4,16\n"
 unfolding opened
 variable = refl
 
-no_variable : variable_text none ≡ bytes "x\n"
+no_variable : variable_text None ≡ bytes "x\n"
 unfolding opened
 no_variable = refl
 

@@ -1,6 +1,6 @@
 -- Document 01, program `lay`: the answer lines of the definitions, each as its text.
-use Rattle.std.specs.Prelude.{ℕ, Bool, cond, List, [], ◌∷◌, map}
-use Rattle.std.proofs.Math.Option.{Option}
+use Rattle.std.specs.Prelude.{ℕ, Bool, cond, List, [], ◌∷◌, map, Option, Some, None}
+use Rattle.std.proofs.Math.Option.{none, some}
 use Rattle.arith.specs.Refusals.{refused}
 use Rattle.decimal.specs.Text.{bytes}
 use Rattle.decimal.specs.Decimal.{decimal}
@@ -27,7 +27,8 @@ length_text offset stride = printed (length_line (record { offset = offset; stri
 
 -- X
 abbrev pub variable_text : Option MemLayout → List ℕ
-variable_text m = printed (variable_line m)
+variable_text None = printed (variable_line none)
+variable_text (Some m) = printed (variable_line (some m))
 
 -- a refusal
 abbrev pub refusal_text : ℕ → List ℕ

@@ -67,18 +67,17 @@ fn opaque_line(out: &mut [u8], at: usize, form: &[u8], len: u32) -> usize
 }
 
 // The line of a layout whose fields are spans of these offsets.
+#[tactic(auto, unfolding(answers::specs::Lines::layout_line))]
 pub fn layout_line(out: &mut [u8], at: usize, l: TypeLayout, offsets: &[u32]) -> usize
     ensures { Printed (layout_text offsets.now l) out.old at result out.new }
 {
     match l {
         TypeLayout::Concrete(m) => memory_line(out, at, b"c", 0, m, offsets),
-        TypeLayout::Handle(h) => match h {
-            Handle::Opaque => opaque_line(out, at, b"o", 0),
-            Handle::Buffer(m) => memory_line(out, at, b"b", 0, m, offsets),
-        },
-        TypeLayout::HandleArray(h, len) => match h {
-            Handle::Opaque => opaque_line(out, at, b"ao", len),
-            Handle::Buffer(m) => memory_line(out, at, b"ab", len, m, offsets),
-        },
+        TypeLayout::Handle(Handle::Opaque) => opaque_line(out, at, b"o", 0),
+        TypeLayout::Handle(Handle::Buffer(m)) => memory_line(out, at, b"b", 0, m, offsets),
+        TypeLayout::HandleArray(Handle::Opaque, len) => opaque_line(out, at, b"ao", len),
+        TypeLayout::HandleArray(Handle::Buffer(m), len) => {
+            memory_line(out, at, b"ab", len, m, offsets)
+        }
     }
 }

@@ -4,7 +4,6 @@
 
 pub mod layouts;
 
-ghost use Rattle.std.proofs.Math.Option.{none, some};
 ghost use Rattle.text.specs.Printed.{Printed};
 ghost use Rattle.steps.specs.Lists.{steps_in};
 ghost use Rattle.printing.specs.Texts.{equal_text, components_text, chain_text, length_text, variable_text, refusal_text};
@@ -12,13 +11,15 @@ ghost use Rattle.printing.specs.Texts.{equal_text, components_text, chain_text, 
 use shapes::MemLayout;
 
 // `y` or `n`.
+#[tactic(auto, unfolding(answers::specs::Output::printed))]
 pub fn equal_line(out: &mut [u8], at: usize, same: bool) -> usize
     ensures { Printed (equal_text same) out.old at result out.new }
 {
     if same {
-        return text::bytes(out, at, b"y\n");
+        text::bytes(out, at, b"y\n")
+    } else {
+        text::bytes(out, at, b"n\n")
     }
-    text::bytes(out, at, b"n\n")
 }
 
 // `q`, then components.
@@ -58,22 +59,19 @@ pub fn length_line(out: &mut [u8], at: usize, offset: u32, stride: u32) -> usize
     text::byte(out, c, b'\n')
 }
 
-// `x,size,align,legacy`.
-pub fn variable_line(out: &mut [u8], at: usize, m: MemLayout) -> usize
-    ensures { Printed (variable_text (some m)) out.old at result out.new }
+// `x,size,align,legacy`, or `x` alone.
+#[tactic(auto, unfolding(answers::specs::Output::printed))]
+pub fn variable_line(out: &mut [u8], at: usize, m: Option<MemLayout>) -> usize
+    ensures { Printed (variable_text m) out.old at result out.new }
 {
+    let Some(m) = m else {
+        return text::bytes(out, at, b"x\n");
+    };
     let a = text::byte(out, at, b'x');
     let b = cells::number(out, a, m.size);
     let c = cells::number(out, b, m.align);
     let d = cells::number(out, c, m.legacy_align);
     text::byte(out, d, b'\n')
-}
-
-// `x` alone.
-pub fn no_variable_line(out: &mut [u8], at: usize) -> usize
-    ensures { Printed (variable_text none) out.old at result out.new }
-{
-    text::bytes(out, at, b"x\n")
 }
 
 // `e,number`.
