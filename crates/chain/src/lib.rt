@@ -10,6 +10,7 @@ use arith::refusal::Refusal;
 use lower::QPtrOp;
 use moves::Move;
 use places::Place;
+use shapes::tables::Layouts;
 
 // How far a walk gets without a step: it ends, this offset waiting; or it gives a step behind what waits, and goes on from there.
 #[derive(Clone, Copy)]
@@ -25,24 +26,21 @@ pub enum Run {
 
 // From a place on, fields and constant elements are no more than offsets that wait.
 fn go_on(
-    layouts: &[u32],
-    types: u32,
-    offsets: &[u32],
-    members: &[u32],
+    layouts: &Layouts<'_>,
     chain: &[u32],
     from: usize,
     l: Place,
     p: Option<i32>,
 ) -> Result<Run, Refusal>
     requires { Within from (length chain.now) }
-    ensures { Ran layouts.now offsets.now members.now types chain.now from l p result }
+    ensures { Ran layouts.now.rows.now layouts.now.offsets.now layouts.now.members.now layouts.now.count chain.now from l p result }
 {
     let mut u = l;
     let mut q = p;
     for (k, index) in chain[from..].chunks_exact(2).enumerate() {
         let at = from + 2 * k;
         let i = moves::index_of(index[0], index[1]);
-        match moves::next_move(layouts, types, offsets, members, u, i, q)? {
+        match moves::next_move(layouts, u, i, q)? {
             Move::Onward(v, w) => {
                 u = v;
                 q = w;
@@ -71,10 +69,7 @@ fn go_on(
 // The struct part: fields, and elements at constant places, which are as fields are. It hands an index that gives a step to the array part.
 #[cycle(array_part_struct_part)]
 fn struct_part(
-    layouts: &[u32],
-    types: u32,
-    offsets: &[u32],
-    members: &[u32],
+    layouts: &Layouts<'_>,
     chain: &[u32],
     from: usize,
     l: Place,
@@ -88,9 +83,9 @@ fn struct_part(
     indices: &mut [u32],
 ) -> Result<usize, Refusal>
     requires { Within from (length chain.now) × Few n (length chain.now) from l }
-    ensures { Wrote n (in_room_behind room n (on_from layouts.now offsets.now members.now types chain.now from l p)) result kinds.old bytes.old bounds.old marks.old indices.old kinds.new bytes.new bounds.new marks.new indices.new }
+    ensures { Wrote n (in_room_behind room n (on_from layouts.now.rows.now layouts.now.offsets.now layouts.now.members.now layouts.now.count chain.now from l p)) result kinds.old bytes.old bounds.old marks.old indices.old kinds.new bytes.new bounds.new marks.new indices.new }
 {
-    match go_on(layouts, types, offsets, members, chain, from, l, p)? {
+    match go_on(layouts, chain, from, l, p)? {
         Run::Ended(q) => moves::finish(q, n, room, kinds, bytes, bounds, marks, indices),
         Run::Gives {
             waiting,
@@ -98,8 +93,7 @@ fn struct_part(
             step,
             at,
         } => array_part(
-            layouts, types, offsets, members, chain, at, place, waiting, step, n, room, kinds,
-            bytes, bounds, marks, indices,
+            layouts, chain, at, place, waiting, step, n, room, kinds, bytes, bounds, marks, indices,
         ),
     }
 }
@@ -107,10 +101,7 @@ fn struct_part(
 // The array part: what waits and a step, stored once the struct part has answered for the indices left.
 #[cycle(array_part_struct_part)]
 fn array_part(
-    layouts: &[u32],
-    types: u32,
-    offsets: &[u32],
-    members: &[u32],
+    layouts: &Layouts<'_>,
     chain: &[u32],
     at: usize,
     l: Place,
@@ -125,22 +116,18 @@ fn array_part(
     indices: &mut [u32],
 ) -> Result<usize, Refusal>
     requires { Within at (length chain.now) × Few (n + 2) (length chain.now) at l }
-    ensures { Wrote n (in_room_behind room n (before (flush p (s ∷ [])) (on_from layouts.now offsets.now members.now types chain.now at l None))) result kinds.old bytes.old bounds.old marks.old indices.old kinds.new bytes.new bounds.new marks.new indices.new }
+    ensures { Wrote n (in_room_behind room n (before (flush p (s ∷ [])) (on_from layouts.now.rows.now layouts.now.offsets.now layouts.now.members.now layouts.now.count chain.now at l None))) result kinds.old bytes.old bounds.old marks.old indices.old kinds.new bytes.new bounds.new marks.new indices.new }
 {
     let next = moves::after(p, n) + 1;
     let r = struct_part(
-        layouts, types, offsets, members, chain, at, l, None, next, room, kinds, bytes, bounds,
-        marks, indices,
+        layouts, chain, at, l, None, next, room, kinds, bytes, bounds, marks, indices,
     );
     moves::prefix(r, p, s, n, kinds, bytes, bounds, marks, indices)
 }
 
 // A chain of at most 255 indices, each two words, from a place on: its steps in the five lists, or the refusal and the lists as they were.
 pub fn lower_from(
-    layouts: &[u32],
-    types: u32,
-    offsets: &[u32],
-    members: &[u32],
+    layouts: &Layouts<'_>,
     chain: &[u32],
     l: Place,
     kinds: &mut [u32],
@@ -149,7 +136,7 @@ pub fn lower_from(
     marks: &mut [u32],
     indices: &mut [u32],
 ) -> Result<usize, Refusal>
-    ensures { Wrote 0 (chain_of (room_of kinds.old bytes.old bounds.old marks.old indices.old) layouts.now offsets.now members.now types l chain.now) result kinds.old bytes.old bounds.old marks.old indices.old kinds.new bytes.new bounds.new marks.new indices.new }
+    ensures { Wrote 0 (chain_of (room_of kinds.old bytes.old bounds.old marks.old indices.old) layouts.now.rows.now layouts.now.offsets.now layouts.now.members.now layouts.now.count l chain.now) result kinds.old bytes.old bounds.old marks.old indices.old kinds.new bytes.new bounds.new marks.new indices.new }
 {
     if 510 < chain.len() {
         return Err(Refusal::OVERSIZE);
@@ -161,7 +148,6 @@ pub fn lower_from(
         .min(marks.len())
         .min(indices.len());
     struct_part(
-        layouts, types, offsets, members, chain, 0, l, None, 0, room, kinds, bytes, bounds, marks,
-        indices,
+        layouts, chain, 0, l, None, 0, room, kinds, bytes, bounds, marks, indices,
     )
 }

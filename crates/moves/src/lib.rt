@@ -12,6 +12,7 @@ use arith::refusal::Refusal;
 use lower::QPtrOp;
 use places::Place;
 use shapes::Components;
+use shapes::tables::Layouts;
 use spirv::Index;
 
 // How a part is reached: an element by its index, a field by its offset, which then waits.
@@ -117,14 +118,8 @@ fn field_way(offsets: &[u32], types: &[u32], i: Index, p: Option<i32>) -> Result
 
 // ---- any index
 
-fn part_way(
-    offsets: &[u32],
-    members: &[u32],
-    c: Components,
-    i: Index,
-    p: Option<i32>,
-) -> Result<Way, Refusal>
-    ensures { result ≡ part_way offsets.now members.now c i p }
+fn part_way(layouts: &Layouts<'_>, c: Components, i: Index, p: Option<i32>) -> Result<Way, Refusal>
+    ensures { result ≡ part_way layouts.now.offsets.now layouts.now.members.now c i p }
 {
     match c {
         Components::Scalar => Err(Refusal::NO_PARTS),
@@ -140,24 +135,18 @@ fn part_way(
             },
         }),
         Components::Fields { start, count } => {
-            let os = shapes::rows::span(offsets, start, count);
-            let ts = shapes::rows::span(members, start, count);
+            let os = shapes::rows::span(layouts.offsets, start, count);
+            let ts = shapes::rows::span(layouts.members, start, count);
             field_way(os, ts, i, p)
         }
     }
 }
 
-fn way_of(
-    offsets: &[u32],
-    members: &[u32],
-    l: Place,
-    i: Index,
-    p: Option<i32>,
-) -> Result<Way, Refusal>
-    ensures { result ≡ way_of offsets.now members.now l i p }
+fn way_of(layouts: &Layouts<'_>, l: Place, i: Index, p: Option<i32>) -> Result<Way, Refusal>
+    ensures { result ≡ way_of layouts.now.offsets.now layouts.now.members.now l i p }
 {
     match l {
-        Place::Memory(c) => part_way(offsets, members, c, i, p),
+        Place::Memory(c) => part_way(layouts, c, i, p),
         Place::Buffer(c) => Ok(Way::Enter(c)),
         Place::Buffers(c) => Ok(Way::Give(Place::Buffer(c))),
         Place::Opaque => Err(Refusal::NO_PARTS),
@@ -167,20 +156,12 @@ fn way_of(
 
 // Where an index leads from a place.
 #[tactic(auto, unfolding(crate::specs::Moves::move_of))]
-pub fn next_move(
-    layouts: &[u32],
-    n: u32,
-    offsets: &[u32],
-    members: &[u32],
-    l: Place,
-    i: Index,
-    p: Option<i32>,
-) -> Result<Move, Refusal>
-    ensures { result ≡ move_of (answer_at layouts.now n) offsets.now members.now l i p }
+pub fn next_move(layouts: &Layouts<'_>, l: Place, i: Index, p: Option<i32>) -> Result<Move, Refusal>
+    ensures { result ≡ move_of (answer_at layouts.now.rows.now layouts.now.count) layouts.now.offsets.now layouts.now.members.now l i p }
 {
-    match way_of(offsets, members, l, i, p)? {
+    match way_of(layouts, l, i, p)? {
         Way::Part { ty, by } => {
-            let u = places::place_at(layouts, n, ty)?;
+            let u = places::place_at(layouts.rows, layouts.count, ty)?;
             arrive(by, i, p, u)
         }
         Way::Give(u) => Ok(Move::Emit(u, QPtrOp::HandleArrayIndex { index: i })),
