@@ -3,20 +3,23 @@ use Prim.Native.Nat.{ℕ, ◌+◌, ◌≤◌}
 use mathlib.Core.Path.{◌≡◌, refl, ap, ◌∙◌}
 use mathlib.Core.Bool.{true}
 use mathlib.Core.List.{List, [], ◌∷◌}
+use mathlib.Core.Logic.{◌⊎◌, ⊎_elim, inl, inr}
 use native.Mathlib.Omega.{arith}
 use lib.Dec.{leb}
 use lib.ListN.{length, take, drop, length-take}
 use borrow.Author.Tests.{ne_eqb, leb-true}
 use Rattle.arith.specs.Refusals.{Result, ok, refused, ◌>>=◌, ◌>>◌, refuse◌unless◌, offsets_missing}
-use Rattle.arith.proofs.Results.{went, value_is, passed, number_is, never, second_true}
+use Rattle.arith.proofs.Results.{went, value_is, passed, second_true}
 use Rattle.spirv.specs.declared.DeclRow.{DeclRow}
 use Rattle.shapes.specs.declared.LayoutConfig.{LayoutConfig}
+use Rattle.arith.specs.InCode.{OrRefusal, in_code, err}
+use Rattle.shapes.specs.declared.MaybeDynMemLayout.{MaybeDynMemLayout}
 use Rattle.shapes.specs.Shapes.{MemTypeLayout}
 use Rattle.layout.specs.Arrays.{Answer}
-use Rattle.layout.specs.Structs.{member_layouts, Extent, no_members, Placed, place, final_size}
-use Rattle.structs.specs.Steps.{offsets_of, held_extent}
-use Rattle.structs.specs.Rows.{StructMemory, with_size, sized_to, decorations_of, memory_of, span_within}
-use Rattle.structs.proofs.Placement.{placed_offsets}
+use Rattle.layout.specs.Structs.{Extent, no_members, place}
+use Rattle.structs.specs.Steps.{mapped, extent_of, offsets_of, held_extent}
+use Rattle.structs.specs.Rows.{StructMemory, Places, memory_of, span_within}
+use Rattle.structs.proofs.Placement.{placed_offsets, placed_extent, members_length}
 
 pub none_given : (l : List ℕ) → length l ≡ 0 → l ≡ []
 none_given [] h = refl
@@ -29,56 +32,19 @@ unfolding place ◌>>◌ refuse◌unless◌
 not_one_each cfg [] ms h k = absurd (h refl)
 not_one_each cfg (o ∷ os) ms h k = rw (ne_eqb (length (o ∷ os)) (length ms) k)
 
-abbrev pub extent_only : Placed → Result Extent
-extent_only p = ok p.extent
+-- where there are none, or one per member
+pub placed_by : (cfg : LayoutConfig) (below : ℕ → Answer) (types given : List ℕ) (x : OrRefusal MaybeDynMemLayout) → (length given ≡ 0) ⊎ (length given ≡ length types)
+    → x ≡ in_code (mapped held_extent (extent_of cfg below given (no_members cfg) types)) → Places x cfg below types given
+placed_by cfg below types given x some h =
+    let one_each : (given ≡ []) ⊎ (length given ≡ length types) = ⊎_elim (λ z. inl (none_given given z)) inr some in
+    record { by = λ ms k. h ∙ ap (λ (r : Result Extent). in_code (mapped held_extent r)) (placed_extent cfg below given types ms k one_each) }
 
--- memory of this extent, with this size
-pub record Sized (r : Result StructMemory) (y : Extent) (size : ℕ) : Type 0 where
-  pub memory : StructMemory
-  pub here : r ≡ ok memory
-  pub same : memory.mem ≡ with_size (held_extent y) size
-
-sized_by : (y : Extent) (size : ℕ) → final_size y ≡ ok size → (q : Result Placed) → (q >>= extent_only) ≡ ok y
-    → Sized (q >>= λ p. final_size p.extent >>= λ size. ok (sized_to p size)) y size
+pub not_placed : (cfg : LayoutConfig) (below : ℕ → Answer) (types given : List ℕ) → (length given ≡ 0 → ⊥) → (length given ≡ length types → ⊥)
+    → Places (err offsets_missing) cfg below types given
 unfolding ◌>>=◌
-sized_by y size h (ok p) g =
-    let x = value_is g in
-    let e : final_size p.extent ≡ ok size = ap final_size x ∙ h in
-    record { memory = sized_to p size; here = rw e; same = ap (λ (z : Extent). with_size (held_extent z) size) x }
-sized_by y size h (refused n) g = absurd (never g)
+not_placed cfg below types given h k = record { by = λ ms m. rw (not_one_each cfg given ms h (λ e. k (e ∙ members_length cfg below types ms m))) }
 
 module _ (cfg : LayoutConfig) (below : ℕ → Answer) (types given : List ℕ) (r : DeclRow) where
-  pub of_members : (n : ℕ) → member_layouts below types ≡ refused n → memory_of cfg below types given r ≡ refused n
-  unfolding memory_of ◌>>=◌
-  of_members n h = rw h
-
-  module _ (ms : List MemTypeLayout) (members : member_layouts below types ≡ ok ms) where
-    pub of_decorations : (n : ℕ) → decorations_of r ≡ refused n → memory_of cfg below types given r ≡ refused n
-    unfolding memory_of ◌>>=◌ ◌>>◌
-    of_decorations n h = rw (members, h)
-
-    module _ (fine : decorations_of r ≡ ok tt) where
-      pub of_place : (n : ℕ) → (place cfg given ms >>= extent_only) ≡ refused n → memory_of cfg below types given r ≡ refused n
-      unfolding memory_of ◌>>=◌ ◌>>◌
-      of_place n h = rw (members, fine) (by (place cfg given ms) h)
-        where
-          by : (q : Result Placed) → (q >>= extent_only) ≡ refused n
-              → (q >>= λ p. final_size p.extent >>= λ size. ok (sized_to p size)) ≡ refused n
-          by (ok p) g = let z : ◌≡◌ {A = ℕ} 0 1 = cc in absurd (omega arith)
-          by (refused m) g = rw (number_is g)
-
-      module _ (y : Extent) (placed : (place cfg given ms >>= extent_only) ≡ ok y) where
-        pub of_size : (n : ℕ) → final_size y ≡ refused n → memory_of cfg below types given r ≡ refused n
-        unfolding memory_of ◌>>=◌ ◌>>◌
-        of_size n h =
-            let p = went (place cfg given ms) extent_only placed in
-            let e : final_size p.value.extent ≡ refused n = ap final_size (value_is p.rest) ∙ h in
-            rw (members, fine, p.here, e)
-
-        pub sized_is : (size : ℕ) → final_size y ≡ ok size → Sized (memory_of cfg below types given r) y size
-        unfolding memory_of ◌>>=◌ ◌>>◌
-        sized_is size h = rw (members, fine) (sized_by y size h (place cfg given ms) placed)
-
   -- its offsets are those that the walk gives
   pub of_offsets : (s : StructMemory) → memory_of cfg below types given r ≡ ok s → offsets_of cfg below given (no_members cfg) types ≡ s.offsets
   unfolding memory_of

@@ -13,8 +13,7 @@ use Rattle.shapes.specs.declared.LayoutConfig.{LayoutConfig}
 use Rattle.shapes.specs.Shapes.{MemTypeLayout}
 use Rattle.layout.specs.Arrays.{Answer}
 use Rattle.layout.specs.Structs.{in_memory, member_layouts, Extent, no_members, Placed, place_given, place_in_turn, place}
-use Rattle.structs.specs.Rows.{verdict_of}
-use Rattle.structs.specs.Steps.{Spot, step_given, step_in_turn, step_by, member_of, step_of, extent_of, offsets_of}
+use Rattle.structs.specs.Steps.{passes, Spot, step_given, step_in_turn, step_by, member_of, step_of, extent_of, offsets_of}
 
 -- ---- members
 
@@ -28,13 +27,13 @@ pub members_cons : (below : ℕ → Answer) (t : ℕ) (ts : List ℕ)
 unfolding member_layouts member_of
 members_cons below t ts = sym (bind_assoc (below t) in_memory _)
 
--- a member that has a layout leaves the verdict to the others
+-- a member that has a layout leaves the rest to the others
 pub members_next : (below : ℕ → Answer) (t : ℕ) (ts : List ℕ) (m : MemTypeLayout) → member_of (below t) ≡ ok m
-    → verdict_of (member_layouts below (t ∷ ts)) ≡ verdict_of (member_layouts below ts)
-unfolding verdict_of ◌>>=◌
+    → passes (member_layouts below (t ∷ ts)) ≡ passes (member_layouts below ts)
+unfolding ◌>>=◌
 members_next below t ts m h = rw (members_cons below t ts, h) (by (member_layouts below ts))
   where
-    by : (r : Result (List MemTypeLayout)) → verdict_of (r >>= λ ms. ok (m ∷ ms)) ≡ verdict_of r
+    by : (r : Result (List MemTypeLayout)) → passes (r >>= λ ms. ok (m ∷ ms)) ≡ passes r
     by (ok ms) = refl
     by (refused n) = refl
 

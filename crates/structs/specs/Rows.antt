@@ -1,6 +1,7 @@
 -- The struct rule over the tables: a struct's row says where its members and given offsets lie, and what its D lines come to.
-use Rattle.std.specs.Prelude.{ℕ, ◌+◌, ◌≡◌, Bool, true, false, ◌&&◌, ◌||◌, List, leb, eqb, length}
+use Rattle.std.specs.Prelude.{ℕ, ◌+◌, ◌≡◌, Bool, true, false, ◌&&◌, ◌||◌, List, leb, eqb, length, Ok}
 use Rattle.std.proofs.lemmas.List.Edits.{sets}
+use Rattle.arith.specs.InCode.{OrRefusal, in_code, err}
 use Rattle.arith.specs.Pairs.{both}
 use Rattle.arith.specs.Refusals.{Result, ok, refused, ◌>>=◌, ◌>>◌, refuse◌unless◌, misread, offsets_missing}
 use Rattle.spirv.specs.declared.DeclRow.{DeclRow}
@@ -11,18 +12,12 @@ use Rattle.shapes.specs.declared.Components.TheVariants.{Fields}
 use Rattle.shapes.specs.declared.Handle.TheVariants.{Buffer}
 use Rattle.shapes.specs.declared.TypeLayout.{TypeLayout}
 use Rattle.shapes.specs.declared.TypeLayout.TheVariants.{Handle, Concrete}
-use Rattle.shapes.specs.declared.Answer.{Answer}
-use Rattle.shapes.specs.declared.Answer.TheVariants.{Laid, Refused}
 use Rattle.shapes.specs.Spans.{span_of, answer_by, itself}
 use Rattle.shapes.specs.Rows.{answer_at}
 use Rattle.shapes.specs.Shapes as def
 use Rattle.layout.specs.Arrays as arrays
 use Rattle.layout.specs.Structs.{member_layouts, Placed, place, final_size}
-use Rattle.structs.specs.Steps.{held_extent, held_placing}
-use Rattle.structs.specs.declared.Verdict.{Verdict}
-use Rattle.structs.specs.declared.Verdict.TheVariants as verdict
-use Rattle.structs.specs.declared.Placing.{Placing}
-use Rattle.structs.specs.declared.Placing.TheVariants as placing
+use Rattle.structs.specs.Steps.{held_extent, mapped}
 
 -- what the types below answer, from their table
 abbrev pub below_in : (layouts : List ℕ) (n : ℕ) → ℕ → arrays.Answer
@@ -69,17 +64,12 @@ struct_of_row cfg below members given room r = do
 
 -- ---- as the code holds them
 
-unfoldable pub verdict_of : {A : Type 0} → Result A → Verdict
-verdict_of (ok a) = verdict.Good
-verdict_of (refused n) = verdict.Refused n
-
-unfoldable pub held_memory : Result StructMemory → Placing
-held_memory (ok s) = placing.Done s.mem
-held_memory (refused n) = placing.Refused n
+abbrev pub memory_alone : StructMemory → MaybeDynMemLayout
+memory_alone s = s.mem
 
 -- what the members take up, where each has a layout
-pub record Places (p : Placing) (cfg : LayoutConfig) (below : ℕ → arrays.Answer) (types given : List ℕ) : Type 0 where
-  pub by : (ms : List def.MemTypeLayout) → member_layouts below types ≡ ok ms → p ≡ held_placing (place cfg given ms >>= λ q. ok q.extent)
+pub record Places (p : OrRefusal MaybeDynMemLayout) (cfg : LayoutConfig) (below : ℕ → arrays.Answer) (types given : List ℕ) : Type 0 where
+  pub by : (ms : List def.MemTypeLayout) → member_layouts below types ≡ ok ms → p ≡ in_code (mapped held_extent (place cfg given ms >>= λ q. ok q.extent))
 
 abbrev pub block_or : Bool → MemTypeLayout → TypeLayout
 block_or true m = Handle (Buffer m)
@@ -89,6 +79,6 @@ abbrev pub fields_at : DeclRow → MaybeDynMemLayout → MemTypeLayout
 fields_at r mem = record { mem = mem; components = Fields r.start r.count }
 
 -- the answer, and the list of offsets afterwards: untouched where the struct is refused
-unfoldable pub struct_both : (block : Bool) → DeclRow → (offsets : List ℕ) → Result StructMemory → Answer × List ℕ
-struct_both block r offsets (ok s) = both (Laid (block_or block (fields_at r s.mem))) (sets offsets r.start s.offsets)
-struct_both block r offsets (refused n) = both (Refused n) offsets
+unfoldable pub struct_both : (block : Bool) → DeclRow → (offsets : List ℕ) → Result StructMemory → OrRefusal TypeLayout × List ℕ
+struct_both block r offsets (ok s) = both (Ok (block_or block (fields_at r s.mem))) (sets offsets r.start s.offsets)
+struct_both block r offsets (refused n) = both (err n) offsets

@@ -1,18 +1,14 @@
 -- The struct rule member by member, over the members' type numbers: the same as `place` of the members' layouts, where each has one.
 use Rattle.std.specs.Prelude.{ℕ, ◌+◌, max, ◌≡◌, ◌&&◌, not, List, [], ◌∷◌, eqb}
 use Rattle.arith.specs.Refusals.{Result, ok, refused, ◌>>◌, ◌>>=◌, refuse◌when◌, unsized_misplaced}
+use Rattle.arith.specs.InCode.{OrRefusal, in_code}
 use Rattle.arith.specs.Numbers.{fit}
 use Rattle.shapes.specs.declared.LayoutConfig.{LayoutConfig}
 use Rattle.shapes.specs.declared.MaybeDynMemLayout.{MaybeDynMemLayout}
 use Rattle.shapes.specs.Shapes.{Components, MemTypeLayout, size_of, runtime_sized}
 use Rattle.layout.specs.Arrays.{Answer, rounded}
 use Rattle.layout.specs.Structs.{in_memory, Extent, with_member}
-use Rattle.structs.specs.declared.Member.{Member}
-use Rattle.structs.specs.declared.Member.TheVariants as member
-use Rattle.structs.specs.declared.Step.{Step}
-use Rattle.structs.specs.declared.Step.TheVariants as step
-use Rattle.structs.specs.declared.Placing.{Placing}
-use Rattle.structs.specs.declared.Placing.TheVariants as placing
+use Rattle.structs.specs.declared.Placed.{Placed}
 
 -- ---- one member
 
@@ -90,18 +86,21 @@ joined x size m = record {
   dyn_unit_stride = max x.dyn_unit_stride m.dyn_unit_stride;
 }
 
-unfoldable pub held_member : Result MemTypeLayout → Member
-held_member (ok m) = member.Memory m.mem
-held_member (refused n) = member.Refused n
+-- the numbers of memory, without its parts
+abbrev pub numbers_of : MemTypeLayout → MaybeDynMemLayout
+numbers_of m = m.mem
 
-unfoldable pub held_step : Result Spot → Step
-held_step (ok s) = step.Placed s.offset (held_extent s.extent)
-held_step (refused n) = step.Refused n
+abbrev pub held_spot : Spot → Placed
+held_spot s = record { offset = s.offset; extent = held_extent s.extent }
 
-unfoldable pub held_placing : Result Extent → Placing
-held_placing (ok x) = placing.Done (held_extent x)
-held_placing (refused n) = placing.Refused n
+-- a result with another value, or with none
+abbrev pub mapped : {A B : Type 0} → (A → B) → Result A → Result B
+mapped f (ok a) = ok (f a)
+mapped f (refused n) = refused n
+
+abbrev pub passes : {A : Type 0} → Result A → Result (Unit {0})
+passes r = mapped (λ a. tt) r
 
 -- a step is what the definitions say of memory of any parts
-pub record SaysStep (s : Step) (said : Components → Result Spot) : Type 0 where
-  pub by : (parts : Components) → s ≡ held_step (said parts)
+pub record SaysStep (s : OrRefusal Placed) (said : Components → Result Spot) : Type 0 where
+  pub by : (parts : Components) → s ≡ in_code (mapped held_spot (said parts))
