@@ -8,7 +8,8 @@ use lib.ListN.{length, drop, length-append}
 use lib.Seq.{sets}
 use Rattle.spirv.specs.Rows.{row_at}
 use Rattle.shapes.specs.declared.LayoutConfig.{LayoutConfig}
-use Rattle.shapes.specs.declared.Answer.{Answer}
+use Rattle.arith.specs.InCode.{OrRefusal}
+use Rattle.shapes.specs.declared.TypeLayout.{TypeLayout}
 use Rattle.shapes.specs.Words.{encode}
 use Rattle.shapes.specs.Rows.{flat}
 use Rattle.shapes.specs.Spans.{answer_by, itself}
@@ -17,7 +18,7 @@ use Rattle.arith.specs.Pairs.{both}
 use Rattle.structs.specs.Rows.{below_in}
 use Rattle.records.specs.Records.{layout_of_row, below_of, with_next, records, record_at}
 
-below_of_lem : (rs : List Answer) (rest : List ℕ) → below_in (flat rs ++ rest) (length rs) ≡ below_of rs
+below_of_lem : (rs : List (OrRefusal TypeLayout)) (rest : List ℕ) → below_in (flat rs ++ rest) (length rs) ≡ below_of rs
 below_of_lem rs rest = fun_ext λ t. ap (answer_by itself) (answer_of_list rs rest t)
 
 module _ (cfg : LayoutConfig) (types members given offsets : List ℕ) where
@@ -35,7 +36,7 @@ module _ (cfg : LayoutConfig) (types members given offsets : List ℕ) where
       let s = records cfg types members given offsets k in
       rw (add-one k) (by s.0 s.1 (records_length k))
     where
-      by : (rs : List Answer) (os : List ℕ) → length rs ≡ k
+      by : (rs : List (OrRefusal TypeLayout)) (os : List ℕ) → length rs ≡ k
           → ◌≡◌ {A = List ℕ × List ℕ}
           (both (layout_of_row cfg (below_in (flat rs ++ drop (10 * k) layouts) k) members given os (row_at types k)).1
           (sets (flat rs ++ drop (10 * k) layouts) (10 * k) (encode (layout_of_row cfg (below_in (flat rs ++ drop (10 * k) layouts) k) members given os (row_at types k)).0)))
