@@ -24,6 +24,16 @@ pub struct Placed {
     pub extent: MaybeDynMemLayout,
 }
 
+// A struct's members, their types and given offsets, beside the setting and the layouts of the first n types.
+#[derive(Clone, Copy)]
+struct Members<'a> {
+    cfg: LayoutConfig,
+    layouts: &'a [u32],
+    n: u32,
+    types: &'a [u32],
+    given: &'a [u32],
+}
+
 // ---- one member
 
 // Its own refusal, then 11 of a handle.
@@ -35,13 +45,6 @@ pub fn member_of(a: Result<TypeLayout, Refusal>) -> Result<MaybeDynMemLayout, Re
         TypeLayout::Concrete(m) => Ok(m.mem),
         _ => Err(Refusal::HANDLE_MEMBER),
     }
-}
-
-// That of type t, of the first n types.
-fn member_at(layouts: &[u32], n: u32, t: u32) -> Result<MaybeDynMemLayout, Refusal>
-    ensures { result ≡ in_code (mapped numbers_of (member_of (below_in layouts.now n t))) }
-{
-    member_of(rows::answer_at(layouts, n, t))
 }
 
 // With a member more: this size, the largest alignments, and the runtime stride of either.
@@ -92,41 +95,6 @@ fn step_in_turn(
     Ok(Placed { offset, extent })
 }
 
-// Member i, at its given offset if there is one.
-#[tactic(auto, unfolding(arith::proofs::Opened::opened, crate::specs::Steps::step_of))]
-fn step_at(
-    cfg: LayoutConfig,
-    layouts: &[u32],
-    n: u32,
-    types: &[u32],
-    given: &[u32],
-    i: usize,
-    x: MaybeDynMemLayout,
-) -> Result<Placed, Refusal>
-    requires { i < length types.now }
-    ensures { result ≡ in_code (mapped held_spot (step_of cfg (below_in layouts.now n) (drop i given.now) (extent_in x) (get_or types.now i 0))) }
-{
-    let m = member_at(layouts, n, types[i])?;
-    if i < given.len() {
-        step_given(given[i], x, m)
-    } else {
-        step_in_turn(cfg, x, m)
-    }
-}
-
-// ---- all members
-
-// The members' own refusals, in order.
-#[tactic(auto, using(crate::proofs::Walk::check_end))]
-fn check_members(layouts: &[u32], n: u32, types: &[u32]) -> Result<(), Refusal>
-    ensures { result ≡ in_code (passes (member_layouts (below_in layouts.now n) types.now)) }
-{
-    for t in types {
-        member_at(layouts, n, *t)?;
-    }
-    Ok(())
-}
-
 fn no_members(cfg: LayoutConfig) -> MaybeDynMemLayout
     ensures { result ≡ held_extent (no_members cfg) }
 {
@@ -137,66 +105,6 @@ fn no_members(cfg: LayoutConfig) -> MaybeDynMemLayout
             size: 0,
         },
         dyn_unit_stride: 0,
-    }
-}
-
-// What the members take up.
-#[tactic(auto, using(crate::proofs::Walk::extent_next, crate::proofs::Walk::extent_stop, crate::proofs::Walk::extent_end))]
-fn extent(
-    cfg: LayoutConfig,
-    layouts: &[u32],
-    n: u32,
-    types: &[u32],
-    given: &[u32],
-) -> Result<MaybeDynMemLayout, Refusal>
-    ensures { result ≡ in_code (mapped held_extent (extent_of cfg (below_in layouts.now n) given.now (no_members cfg) types.now)) }
-{
-    let mut x = no_members(cfg);
-    for i in 0..types.len() {
-        x = step_at(cfg, layouts, n, types, given, i, x)?.extent;
-    }
-    Ok(x)
-}
-
-// Where offsets are given, there must be one per member.
-#[tactic(auto, using(crate::proofs::Memory::placed_by, crate::proofs::Memory::not_placed))]
-fn place(
-    cfg: LayoutConfig,
-    layouts: &[u32],
-    n: u32,
-    types: &[u32],
-    given: &[u32],
-) -> Result<MaybeDynMemLayout, Refusal>
-    ensures { Places result cfg (below_in layouts.now n) types.now given.now }
-{
-    if given.len() == 0 || given.len() == types.len() {
-        extent(cfg, layouts, n, types, given)
-    } else {
-        Err(Refusal::OFFSETS_MISSING)
-    }
-}
-
-// Their offsets, written from `at` on, up to the first member that is refused.
-#[tactic(auto, using(crate::proofs::Walk::offsets_next, crate::proofs::Walk::offsets_stop, crate::proofs::Walk::offsets_end))]
-fn write_offsets(
-    cfg: LayoutConfig,
-    layouts: &[u32],
-    n: u32,
-    types: &[u32],
-    given: &[u32],
-    offsets: &mut [u32],
-    at: usize,
-)
-    requires { at + length types.now ≤ length offsets.old }
-    ensures { offsets.new ≡ sets offsets.old at (offsets_of cfg (below_in layouts.now n) given.now (no_members cfg) types.now) }
-{
-    let mut x = no_members(cfg);
-    for i in 0..types.len() {
-        let Ok(member) = step_at(cfg, layouts, n, types, given, i, x) else {
-            return;
-        };
-        offsets[at + i] = member.offset;
-        x = member.extent;
     }
 }
 
@@ -241,22 +149,92 @@ fn sized(x: MaybeDynMemLayout, size: u32) -> MaybeDynMemLayout
     }
 }
 
-// The memory of a struct whose members and given offsets are these.
-#[tactic(auto, unfolding(arith::proofs::Opened::opened, crate::specs::Rows::memory_of))]
-fn struct_memory(
-    cfg: LayoutConfig,
-    layouts: &[u32],
-    n: u32,
-    types: &[u32],
-    given: &[u32],
-    r: DeclRow,
-) -> Result<MaybeDynMemLayout, Refusal>
-    ensures { result ≡ in_code (mapped memory_alone (memory_of cfg (below_in layouts.now n) types.now given.now r)) }
-{
-    check_members(layouts, n, types)?;
-    check_decorations(r)?;
-    let x = place(cfg, layouts, n, types, given)?;
-    Ok(sized(x, final_size(x)?))
+impl Members<'_> {
+    // That of type t, of the first n types.
+    fn member_at(&self, t: u32) -> Result<MaybeDynMemLayout, Refusal>
+        ensures { result ≡ in_code (mapped numbers_of (member_of (below_in self.now.layouts.now self.now.n t))) }
+    {
+        member_of(rows::answer_at(self.layouts, self.n, t))
+    }
+
+    // Member i, at its given offset if there is one.
+    #[tactic(auto, unfolding(arith::proofs::Opened::opened, crate::specs::Steps::step_of))]
+    fn step_at(&self, i: usize, x: MaybeDynMemLayout) -> Result<Placed, Refusal>
+        requires { i < length self.now.types.now }
+        ensures { result ≡ in_code (mapped held_spot (step_of self.now.cfg (below_in self.now.layouts.now self.now.n) (drop i self.now.given.now) (extent_in x) (get_or self.now.types.now i 0))) }
+    {
+        let m = self.member_at(self.types[i])?;
+        if i < self.given.len() {
+            step_given(self.given[i], x, m)
+        } else {
+            step_in_turn(self.cfg, x, m)
+        }
+    }
+
+    // ---- all members
+
+    // The members' own refusals, in order.
+    #[tactic(auto, using(crate::proofs::Walk::check_end))]
+    fn check_members(&self) -> Result<(), Refusal>
+        ensures { result ≡ in_code (passes (member_layouts (below_in self.now.layouts.now self.now.n) self.now.types.now)) }
+    {
+        for t in self.types {
+            self.member_at(*t)?;
+        }
+        Ok(())
+    }
+
+    // What the members take up.
+    #[tactic(auto, using(crate::proofs::Walk::extent_next, crate::proofs::Walk::extent_stop, crate::proofs::Walk::extent_end))]
+    fn extent(&self) -> Result<MaybeDynMemLayout, Refusal>
+        ensures { result ≡ in_code (mapped held_extent (extent_of self.now.cfg (below_in self.now.layouts.now self.now.n) self.now.given.now (no_members self.now.cfg) self.now.types.now)) }
+    {
+        let mut x = no_members(self.cfg);
+        for i in 0..self.types.len() {
+            x = self.step_at(i, x)?.extent;
+        }
+        Ok(x)
+    }
+
+    // Where offsets are given, there must be one per member.
+    #[tactic(auto, using(crate::proofs::Memory::placed_by, crate::proofs::Memory::not_placed))]
+    fn place(&self) -> Result<MaybeDynMemLayout, Refusal>
+        ensures { Places result self.now.cfg (below_in self.now.layouts.now self.now.n) self.now.types.now self.now.given.now }
+    {
+        let count = self.given.len();
+        if count == 0 || count == self.types.len() {
+            self.extent()
+        } else {
+            Err(Refusal::OFFSETS_MISSING)
+        }
+    }
+
+    // Their offsets, written from `at` on, up to the first member that is refused.
+    #[tactic(auto, using(crate::proofs::Walk::offsets_next, crate::proofs::Walk::offsets_stop, crate::proofs::Walk::offsets_end))]
+    fn write_offsets(&self, offsets: &mut [u32], at: usize)
+        requires { at + length self.now.types.now ≤ length offsets.old }
+        ensures { offsets.new ≡ sets offsets.old at (offsets_of self.now.cfg (below_in self.now.layouts.now self.now.n) self.now.given.now (no_members self.now.cfg) self.now.types.now) }
+    {
+        let mut x = no_members(self.cfg);
+        for i in 0..self.types.len() {
+            let Ok(member) = self.step_at(i, x) else {
+                return;
+            };
+            offsets[at + i] = member.offset;
+            x = member.extent;
+        }
+    }
+
+    // The memory of the struct.
+    #[tactic(auto, unfolding(arith::proofs::Opened::opened, crate::specs::Rows::memory_of))]
+    fn memory(&self, r: DeclRow) -> Result<MaybeDynMemLayout, Refusal>
+        ensures { result ≡ in_code (mapped memory_alone (memory_of self.now.cfg (below_in self.now.layouts.now self.now.n) self.now.types.now self.now.given.now r)) }
+    {
+        self.check_members()?;
+        check_decorations(r)?;
+        let x = self.place()?;
+        Ok(sized(x, final_size(x)?))
+    }
 }
 
 // The span lies within lists of these lengths.
@@ -301,8 +279,15 @@ pub fn struct_layout(
         return Err(Refusal::MISREAD);
     }
     let types = rows::span(members, r.start, r.count);
-    let own = rows::span(given, r.start, r.read);
-    let mem = struct_memory(cfg, layouts, n, types, own, r)?;
-    write_offsets(cfg, layouts, n, types, own, offsets, r.start as usize);
+    let given = rows::span(given, r.start, r.read);
+    let own = Members {
+        cfg,
+        layouts,
+        n,
+        types,
+        given,
+    };
+    let mem = own.memory(r)?;
+    own.write_offsets(offsets, r.start as usize);
     Ok(block_or(block, r, mem))
 }
