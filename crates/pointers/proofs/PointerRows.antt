@@ -1,13 +1,15 @@
--- A pointer's row, known by its words. Assumes nothing.
-use Prim.Native.Nat.{ℕ}
+-- A pointer's row, known by its words, and a row that a table lacks. Assumes nothing.
+use Prim.Native.Nat.{ℕ, ◌+◌, ◌*◌, ◌<◌}
+use native.Mathlib.Omega.{arith}
 use mathlib.Core.Path.{◌≡◌, refl, ap, ◌∙◌}
 use mathlib.Core.List.{List, [], ◌∷◌}
-use lib.ListN.{length, get_or}
+use lib.ListN.{length, get_or, take, drop, length-take, length-drop}
+use Rattle.std.specs.Prelude.{None}
 use Rattle.arith.specs.Refusals.{ok}
 use Rattle.spirv.specs.declared.SpvType.TheVariants.{Pointer}
 use Rattle.spirv.specs.Decl.{pointee_of}
-use Rattle.spirv.specs.Rows.{encode_row, decode_row, plain_row}
-use Rattle.spirv.proofs.Rows.{rows_read_back}
+use Rattle.spirv.specs.Rows.{encode_row, decode_row, plain_row, row_at}
+use Rattle.spirv.proofs.Rows.{rows_read_back, row_short}
 use Rattle.places.proofs.Listed.{one_by_one}
 use Rattle.pointers.specs.OverTables.{pointee_of_row}
 
@@ -24,3 +26,9 @@ module _ (ws : List ℕ) (h : length ws ≡ 6) (tag : get_or ws 0 0 ≡ 80) (x :
   unfolding pointee_of
   of_pointer = ap (λ (l : List ℕ). pointee_of_row (decode_row l)) pointer_words
       ∙ ap pointee_of_row (rows_read_back.back (plain_row (Pointer (get_or ws 1 0) (get_or ws 2 0))) record { plain = λ e. refl })
+
+pub row_missing : (table : List ℕ) (i : ℕ) → length table < 6 * i + 6 → row_at table i ≡ None
+unfolding row_at
+row_missing table i h =
+    let rest = drop (6 * i) table in
+    row_short (take 6 rest) (λ e. omega (arith, length-take 6 rest, length-drop (6 * i) table))

@@ -1,11 +1,10 @@
 -- C, L and X of document 01 over the tables: a pointer's row tells its pointee, and the rows of layouts what a type answers.
-use Rattle.std.specs.Prelude.{ℕ, cond, List, ltb, length}
+use Rattle.std.specs.Prelude.{ℕ, cond, List, Option, Some, None, ltb, length}
 use Rattle.arith.specs.Refusals.{Result, refused, ◌>>=◌, ◌>>◌, refuse◌when◌, refuse◌unless◌, in_room, misread, oversize}
 use Rattle.spirv.specs.Decl.{pointee_of}
 use Rattle.spirv.specs.Rows.{row_at}
 use Rattle.spirv.specs.declared.ChainOp.{ChainOp}
-use Rattle.spirv.specs.declared.RowReading.{RowReading}
-use Rattle.spirv.specs.declared.RowReading.TheVariants.{Row, Broken}
+use Rattle.spirv.specs.declared.DeclRow.{DeclRow}
 use Rattle.shapes.specs.declared.LayoutConfig.{LayoutConfig}
 use Rattle.shapes.specs.Shapes.{TypeLayout}
 use Rattle.layout.specs.Arrays.{Answer}
@@ -17,9 +16,9 @@ use Rattle.moves.specs.Moves.{indices_in}
 
 -- ---- the pointee
 
-abbrev pub pointee_of_row : RowReading → Result ℕ
-pointee_of_row (Row r) = pointee_of r.ty
-pointee_of_row Broken = refused misread
+abbrev pub pointee_of_row : Option DeclRow → Result ℕ
+pointee_of_row (Some r) = pointee_of r.ty
+pointee_of_row None = refused misread
 
 -- of the first n types
 unfoldable pub pointee_at : (types : List ℕ) (n ptr : ℕ) → Result ℕ

@@ -2,181 +2,135 @@
 #![tactic(auto)]
 
 ghost use Rattle.std.specs.Prelude.{ℕ, ◌≡◌, List, length};
+ghost use Rattle.arith.specs.InCode.{in_code, as_option};
 ghost use Rattle.spirv.specs.Decl.{pointee_of};
 ghost use Rattle.spirv.specs.Rows.{decode_row};
 ghost use Rattle.shapes.specs.Spans.{Reading, answer_by, layout_by, memory_by, parts_by, spans_of};
 ghost use Rattle.shapes.specs.Rows.{answer_at};
-ghost use Rattle.rules.specs.Rules.{numbered};
 ghost use Rattle.components.specs.Found.{answers_in};
 ghost use Rattle.lower.specs.Steps.{field_at};
 ghost use Rattle.lower.specs.Other.{member_of, runtime_stride, stride_of_part, length_in, fixed_memory, variable_by};
 ghost use Rattle.pointers.specs.OverTables.{pointee_of_row, pointee_at, length_of, length_over};
-ghost use Rattle.pointers.specs.InCode.{as_pointee, as_field, as_length, as_memory, as_variable};
+ghost use Rattle.pointers.specs.InCode.{as_field, as_length, as_variable};
 
-use rules::Number;
-use shapes::{Answer, Components, Handle, MemLayout, MemTypeLayout, TypeLayout};
-use spirv::{RowReading, SpvType};
+use arith::refusal::Refusal;
+use shapes::{Components, Handle, MemLayout, MemTypeLayout, TypeLayout};
+use spirv::SpvType;
 
 // ---- the pointee
 
-#[derive(Clone, Copy)]
-pub enum Pointee {
-    Type(u32),
-    Refused(u32),
-}
-
-fn pointee_of(ty: SpvType) -> Pointee
-    ensures { result ≡ as_pointee (pointee_of ty) }
+#[tactic(auto, unfolding(spirv::specs::Decl::pointee_of))]
+fn pointee_of(ty: SpvType) -> Result<u32, Refusal>
+    ensures { result ≡ in_code (pointee_of ty) }
 {
     match ty {
-        SpvType::Bool => Pointee::Refused(18),
-        SpvType::Int { width: _ } => Pointee::Refused(18),
-        SpvType::Float { width: _ } => Pointee::Refused(18),
-        SpvType::Vector { elem: _, len: _ } => Pointee::Refused(18),
-        SpvType::Matrix { column: _, len: _ } => Pointee::Refused(18),
-        SpvType::Array {
-            elem: _,
-            len: _,
-            stride: _,
-        } => Pointee::Refused(18),
-        SpvType::RuntimeArray { elem: _, stride: _ } => Pointee::Refused(18),
-        SpvType::Struct { block: _ } => Pointee::Refused(18),
-        SpvType::Pointer { class: _, pointee } => Pointee::Type(pointee),
-        SpvType::Opaque => Pointee::Refused(18),
-        SpvType::Unsupported => Pointee::Refused(18),
+        SpvType::Pointer { class: _, pointee } => Ok(pointee),
+        _ => Err(Refusal::NO_POINTER),
     }
 }
 
 // The pointee of the type whose row these words are.
-fn by_row(ws: &[u32]) -> Pointee
-    ensures { result ≡ as_pointee (pointee_of_row (decode_row ws.now)) }
+fn by_row(ws: &[u32]) -> Result<u32, Refusal>
+    ensures { result ≡ in_code (pointee_of_row (decode_row ws.now)) }
 {
-    match spirv::decode_row(ws) {
-        RowReading::Broken => Pointee::Refused(1),
-        RowReading::Row(r) => {
-            let ty = r.ty;
-            pointee_of(ty)
-        }
-    }
+    let r = spirv::decode_row(ws).ok_or(Refusal::MISREAD)?;
+    pointee_of(r.ty)
 }
 
-// The same; a pointer's row is known by its words.
-fn pointee_in(ws: &[u32]) -> Pointee
+// The same; a pointer's row, whose letter P is 80, is known by its words.
+#[tactic(auto, using(crate::proofs::PointerRows::of_pointer))]
+fn pointee_in(ws: &[u32]) -> Result<u32, Refusal>
     requires { length ws.now ≡ 6 }
-    ensures { result ≡ as_pointee (pointee_of_row (decode_row ws.now)) }
+    ensures { result ≡ in_code (pointee_of_row (decode_row ws.now)) }
 {
-    if ws[0] != 80 {
-        return by_row(ws);
+    match ws {
+        &[80, _, pointee, 0, 0, 0] => Ok(pointee),
+        _ => by_row(ws),
     }
-    if ws[3] != 0 {
-        return by_row(ws);
-    }
-    if ws[4] != 0 {
-        return by_row(ws);
-    }
-    if ws[5] != 0 {
-        return by_row(ws);
-    }
-    Pointee::Type(ws[2])
 }
 
 // The pointee of type ptr, of the first n types; 18 on a type that is no pointer.
-pub fn pointee_at(types: &[u32], n: u32, ptr: u32) -> Pointee
-    ensures { result ≡ as_pointee (pointee_at types.now n ptr) }
+#[tactic(auto, using(crate::proofs::PointerRows::row_missing), unfolding(crate::specs::OverTables::pointee_at, spirv::specs::Rows::row_at))]
+pub fn pointee_at(types: &[u32], n: u32, ptr: u32) -> Result<u32, Refusal>
+    ensures { result ≡ in_code (pointee_at types.now n ptr) }
 {
     if n <= ptr {
-        return Pointee::Refused(1);
+        return Err(Refusal::MISREAD);
     }
     let at = 6 * ptr as usize;
-    if types.len() < at + 6 {
-        return Pointee::Refused(1);
-    }
-    pointee_in(&types[at..at + 6])
+    let Some(ws) = types.get(at..at + 6) else {
+        return Err(Refusal::MISREAD);
+    };
+    pointee_in(ws)
 }
 
 // ---- array length (OpArrayLength)
 
-// A field of a struct, or the refusal.
-#[derive(Clone, Copy)]
-pub enum Field {
-    At { offset: u32, ty: u32 },
-    Refused(u32),
+// A field of a struct.
+#[derive(Clone, Copy, Debug, PartialEq, Eq, Hash)]
+pub struct Field {
+    pub offset: u32,
+    pub ty: u32,
 }
 
-// BufferDynLen, or the refusal.
-#[derive(Clone, Copy)]
-pub enum ArrayLength {
-    Bytes { offset: u32, stride: u32 },
-    Refused(u32),
+// BufferDynLen.
+#[derive(Clone, Copy, Debug, PartialEq, Eq, Hash)]
+pub struct ArrayLength {
+    pub offset: u32,
+    pub stride: u32,
 }
 
-fn field_at(offsets: &[u32], types: &[u32], member: u32) -> Field
+#[tactic(auto, using(lower::proofs::Fields::no_offset, lower::proofs::Fields::no_type, lower::proofs::Fields::field_there))]
+fn field_at(offsets: &[u32], types: &[u32], member: u32) -> Result<Field, Refusal>
     ensures { result ≡ as_field (field_at offsets.now types.now member) }
 {
     let at = member as usize;
-    if offsets.len() <= at {
-        return Field::Refused(21);
-    }
-    if types.len() <= at {
-        return Field::Refused(21);
-    }
-    Field::At {
-        offset: offsets[at],
-        ty: types[at],
-    }
+    let offset = offsets.get(at).ok_or(Refusal::FIELD_OUTSIDE)?;
+    let ty = types.get(at).ok_or(Refusal::FIELD_OUTSIDE)?;
+    Ok(Field {
+        offset: *offset,
+        ty: *ty,
+    })
 }
 
-fn member_of(offsets: &[u32], members: &[u32], c: Components, member: u32) -> Field
+#[tactic(auto, unfolding(lower::specs::Other::member_of))]
+fn member_of(offsets: &[u32], members: &[u32], c: Components, member: u32) -> Result<Field, Refusal>
     ensures { result ≡ as_field (member_of (parts_by (spans_of offsets.now members.now) c) member) }
 {
-    match c {
-        Components::Fields { start, count } => {
-            let os = shapes::rows::span(offsets, start, count);
-            let ts = shapes::rows::span(members, start, count);
-            field_at(os, ts, member)
-        }
-        Components::Elements {
-            stride: _,
-            elem: _,
-            fixed_len: _,
-        } => Field::Refused(21),
-        Components::Scalar => Field::Refused(21),
-    }
+    let Components::Fields { start, count } = c else {
+        return Err(Refusal::FIELD_OUTSIDE);
+    };
+    let os = shapes::rows::span(offsets, start, count);
+    let ts = shapes::rows::span(members, start, count);
+    field_at(os, ts, member)
 }
 
-fn runtime_stride(c: Components) -> Number
-    ensures { (os ms : List ℕ) → result ≡ numbered (runtime_stride (parts_by (spans_of os ms) c)) }
+#[tactic(auto, unfolding(arith::proofs::Opened::opened, lower::specs::Other::runtime_stride))]
+fn runtime_stride(c: Components) -> Result<u32, Refusal>
+    ensures { (os ms : List ℕ) → result ≡ in_code (runtime_stride (parts_by (spans_of os ms) c)) }
 {
     match c {
         Components::Elements {
             stride,
             elem: _,
-            fixed_len,
-        } => {
-            if fixed_len == 0 {
-                return Number::Is(stride);
-            }
-            Number::Refused(26)
-        }
-        Components::Scalar => Number::Refused(26),
-        Components::Fields { start: _, count: _ } => Number::Refused(26),
+            fixed_len: 0,
+        } => Ok(stride),
+        _ => Err(Refusal::NO_RUNTIME_ARRAY),
     }
 }
 
-fn stride_of_part(l: TypeLayout) -> Number
-    ensures { (os ms : List ℕ) → result ≡ numbered (stride_of_part (layout_by (spans_of os ms) l)) }
+#[tactic(auto, unfolding(lower::specs::Other::stride_of_part))]
+fn stride_of_part(l: TypeLayout) -> Result<u32, Refusal>
+    ensures { (os ms : List ℕ) → result ≡ in_code (stride_of_part (layout_by (spans_of os ms) l)) }
 {
     match l {
-        TypeLayout::Concrete(m) => {
-            let c = m.components;
-            runtime_stride(c)
-        }
-        TypeLayout::Handle(_) => Number::Refused(26),
-        TypeLayout::HandleArray(_, _) => Number::Refused(26),
+        TypeLayout::Concrete(m) => runtime_stride(m.components),
+        _ => Err(Refusal::NO_RUNTIME_ARRAY),
     }
 }
 
 // Of a buffer's member.
+#[tactic(auto, unfolding(arith::proofs::Opened::opened, lower::specs::Other::length_in))]
 fn length_in(
     layouts: &[u32],
     n: u32,
@@ -184,30 +138,23 @@ fn length_in(
     members: &[u32],
     m: MemTypeLayout,
     member: u32,
-) -> ArrayLength
+) -> Result<ArrayLength, Refusal>
     ensures { result ≡ as_length (length_in (answers_in layouts.now n offsets.now members.now) (memory_by (spans_of offsets.now members.now) m) member) }
 {
-    let mem = m.mem;
-    let base = mem.fixed_base;
-    let c = m.components;
-    match member_of(offsets, members, c, member) {
-        Field::Refused(e) => ArrayLength::Refused(e),
-        Field::At { offset, ty } => match shapes::rows::answer_at(layouts, n, ty) {
-            Answer::Refused(e) => ArrayLength::Refused(e),
-            Answer::Laid(part) => match stride_of_part(part) {
-                Number::Refused(e) => ArrayLength::Refused(e),
-                Number::Is(stride) => {
-                    if base.size == offset {
-                        return ArrayLength::Bytes { offset, stride };
-                    }
-                    ArrayLength::Refused(27)
-                }
-            },
-        },
+    let f = member_of(offsets, members, m.components, member)?;
+    let part = shapes::rows::answer_at(layouts, n, f.ty)?;
+    let stride = stride_of_part(part)?;
+    if m.mem.fixed_base.size != f.offset {
+        return Err(Refusal::NOT_LAST);
     }
+    Ok(ArrayLength {
+        offset: f.offset,
+        stride,
+    })
 }
 
 // Of a layout's member; 25 where it is no buffer.
+#[tactic(auto, unfolding(arith::proofs::Opened::opened, lower::specs::Other::buffer_of))]
 fn length_of(
     layouts: &[u32],
     n: u32,
@@ -215,19 +162,18 @@ fn length_of(
     members: &[u32],
     l: TypeLayout,
     member: u32,
-) -> ArrayLength
+) -> Result<ArrayLength, Refusal>
     ensures { result ≡ as_length (length_of (answers_in layouts.now n offsets.now members.now) (layout_by (spans_of offsets.now members.now) l) member) }
 {
     match l {
-        TypeLayout::Handle(h) => match h {
-            Handle::Opaque => ArrayLength::Refused(25),
-            Handle::Buffer(m) => length_in(layouts, n, offsets, members, m, member),
-        },
-        TypeLayout::HandleArray(_, _) => ArrayLength::Refused(25),
-        TypeLayout::Concrete(_) => ArrayLength::Refused(25),
+        TypeLayout::Handle(Handle::Buffer(m)) => {
+            length_in(layouts, n, offsets, members, m, member)
+        }
+        _ => Err(Refusal::NO_BUFFER),
     }
 }
 
+#[tactic(auto, unfolding(arith::proofs::Opened::opened, lower::specs::Other::length_by))]
 pub fn array_length(
     n: u32,
     types: &[u32],
@@ -236,53 +182,37 @@ pub fn array_length(
     members: &[u32],
     ptr: u32,
     member: u32,
-) -> ArrayLength
+) -> Result<ArrayLength, Refusal>
     ensures { result ≡ as_length (length_over n types.now layouts.now offsets.now members.now ptr member) }
 {
-    match pointee_at(types, n, ptr) {
-        Pointee::Refused(e) => ArrayLength::Refused(e),
-        Pointee::Type(t) => match shapes::rows::answer_at(layouts, n, t) {
-            Answer::Refused(e) => ArrayLength::Refused(e),
-            Answer::Laid(l) => length_of(layouts, n, offsets, members, l, member),
-        },
-    }
+    let block = pointee_at(types, n, ptr)?;
+    let l = shapes::rows::answer_at(layouts, n, block)?;
+    length_of(layouts, n, offsets, members, l, member)
 }
 
 // ---- local variable (OpVariable)
 
-// The memory of a variable, where it is of a fixed size; or the refusal.
-#[derive(Clone, Copy)]
-pub enum Variable {
-    Fixed(MemLayout),
-    Other,
-    Refused(u32),
-}
-
-fn fixed_memory(l: TypeLayout) -> Variable
-    ensures { (f : Reading) → result ≡ as_memory (fixed_memory (layout_by f l)) }
+// The memory of a variable, where it is of a fixed size.
+#[tactic(auto, unfolding(lower::specs::Other::fixed_memory))]
+fn fixed_memory(l: TypeLayout) -> Option<MemLayout>
+    ensures { (f : Reading) → result ≡ as_option (fixed_memory (layout_by f l)) }
 {
     match l {
-        TypeLayout::Concrete(m) => {
-            let mem = m.mem;
-            let base = mem.fixed_base;
-            if mem.dyn_unit_stride == 0 {
-                return Variable::Fixed(base);
-            }
-            Variable::Other
-        }
-        TypeLayout::Handle(_) => Variable::Other,
-        TypeLayout::HandleArray(_, _) => Variable::Other,
+        TypeLayout::Concrete(m) if m.mem.dyn_unit_stride == 0 => Some(m.mem.fixed_base),
+        _ => None,
     }
 }
 
-pub fn local_variable(n: u32, types: &[u32], layouts: &[u32], ptr: u32) -> Variable
+#[tactic(auto, unfolding(arith::proofs::Opened::opened, lower::specs::Other::variable_by))]
+pub fn local_variable(
+    n: u32,
+    types: &[u32],
+    layouts: &[u32],
+    ptr: u32,
+) -> Result<Option<MemLayout>, Refusal>
     ensures { (f : Reading) → result ≡ as_variable (variable_by (pointee_at types.now n) (λ t. answer_by f (answer_at layouts.now n t)) ptr) }
 {
-    match pointee_at(types, n, ptr) {
-        Pointee::Refused(e) => Variable::Refused(e),
-        Pointee::Type(t) => match shapes::rows::answer_at(layouts, n, t) {
-            Answer::Refused(e) => Variable::Refused(e),
-            Answer::Laid(l) => fixed_memory(l),
-        },
-    }
+    let t = pointee_at(types, n, ptr)?;
+    let l = shapes::rows::answer_at(layouts, n, t)?;
+    Ok(fixed_memory(l))
 }
