@@ -11,8 +11,8 @@ use Rattle.arith.proofs.Results.{no_some, some_is}
 use Rattle.spirv.specs.Decl.{Decl, filled_after, filled}
 use Rattle.shapes.specs.declared.LayoutConfig.{LayoutConfig}
 use Rattle.shapes.specs.Spans.{spans_of, answer_over}
-use Rattle.shapes.specs.declared.Answer as code
-use Rattle.shapes.specs.declared.Answer.TheVariants.{Refused}
+use Rattle.arith.specs.InCode.{OrRefusal, err}
+use Rattle.shapes.specs.declared.TypeLayout as code
 use Rattle.sheet.specs.Sheet.{member_count}
 use Rattle.sheet.specs.Tables.{span_start}
 use Rattle.sheet.proofs.Types.{members_append}
@@ -71,27 +71,27 @@ layouts_snoc cfg ds d = after_snoc (refused misread) (layout_of cfg) [] ds d
 -- ---- the first k types
 
 module _ (cfg : LayoutConfig) (ds : List Decl) (types members given offsets : List ℕ) (tables : Tables ds types members given (length offsets)) where
-  pub record Upto (k : ℕ) (rs : List code.Answer) (os : List ℕ) : Type 0 where
+  pub record Upto (k : ℕ) (rs : List (OrRefusal code.TypeLayout)) (os : List ℕ) : Type 0 where
     pub same : map (answer_over os members) rs ≡ layouts cfg (take k ds)
-    pub reach : (t : ℕ) → AnswerTo (span_start ds k) (get_or rs t (Refused misread))
+    pub reach : (t : ℕ) → AnswerTo (span_start ds k) (get_or rs t (err misread))
     pub long : length os ≡ length offsets
 
-  next : (k : ℕ) (d : Decl) → get_elem? ds k ≡ some d → (rs : List code.Answer) (os : List ℕ) → Upto k rs os
-      → (o : code.Answer × List ℕ) → Read cfg (λ t. get_or rs t (Refused misread)) members os (span_start ds k) d o → Upto (suc k) (rs ++ (o.0 ∷ [])) o.1
+  next : (k : ℕ) (d : Decl) → get_elem? ds k ≡ some d → (rs : List (OrRefusal code.TypeLayout)) (os : List ℕ) → Upto k rs os
+      → (o : OrRefusal code.TypeLayout × List ℕ) → Read cfg (λ t. get_or rs t (err misread)) members os (span_start ds k) d o → Upto (suc k) (rs ++ (o.0 ∷ [])) o.1
   next k d at rs os u o r =
       let start = span_start ds k in
-      let b : ℕ → code.Answer = λ t. get_or rs t (Refused misread) in
-      let old = map_same (answer_over o.1 members) (answer_over os members) (Refused misread) rs
+      let b : ℕ → OrRefusal code.TypeLayout = λ t. get_or rs t (err misread) in
+      let old = map_same (answer_over o.1 members) (answer_over os members) (err misread) rs
       (λ t. reads_same (spans_of o.1 members) (spans_of os members) start (λ s c h. rw (r.kept s c h)) (b t) (u.reach t)) in
       let below : ◌≡◌ {A = ℕ → Answer} (λ t. answer_over os members (b t)) (λ t. get_or (layouts cfg (take k ds)) t (refused misread)) =
-      fun_ext λ t. sym (get_or-map (answer_over os members) rs t (Refused misread)) ∙ ap (λ (l : List Answer). get_or l t (refused misread)) u.same in
+      fun_ext λ t. sym (get_or-map (answer_over os members) rs t (err misread)) ∙ ap (λ (l : List Answer). get_or l t (refused misread)) u.same in
       let count : span_start ds (suc k) ≡ start + length d.members = ap member_count (take_more ds k d at) ∙ members_append (take k ds) d in
       record {
         same =
             map_snoc (answer_over o.1 members) rs o.0
             ∙ rw (old ∙ u.same, r.says ∙ ap (λ (f : ℕ → Answer). layout_of cfg f d) below)
             (sym (ap (layouts cfg) (take_more ds k d at) ∙ layouts_snoc cfg (take k ds) d));
-        reach = rw count (snoc_each (AnswerTo (start + length d.members)) (Refused misread) o.0 rs (λ t. raised start (start + length d.members) (omega arith) (b t) (u.reach t)) r.reaches);
+        reach = rw count (snoc_each (AnswerTo (start + length d.members)) (err misread) o.0 rs (λ t. raised start (start + length d.members) (omega arith) (b t) (u.reach t)) r.reaches);
         long = r.long ∙ u.long;
       }
 
@@ -105,7 +105,7 @@ module _ (cfg : LayoutConfig) (ds : List Decl) (types members given offsets : Li
       let os = (records cfg types members given offsets k).1 in
       let there = subst (Holds (span_start ds k) e.decl members given) (sym u.long) (tables.span k e.decl e.at) in
       rw (tables.row k e.decl e.at)
-      (next k e.decl e.at rs os u _ (read_type cfg (λ t. get_or rs t (Refused misread)) members given os (span_start ds k) u.reach e.decl there))
+      (next k e.decl e.at rs os u _ (read_type cfg (λ t. get_or rs t (err misread)) members given os (span_start ds k) u.reach e.decl there))
 
 pub laid_out : LaidOut
 laid_out cfg ds types members given offsets tables = (upto cfg ds types members given offsets tables (length ds) (omega arith)).same ∙ rw (take-length ds)

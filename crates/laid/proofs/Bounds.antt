@@ -16,8 +16,8 @@ use Rattle.shapes.specs.declared.Handle.{Handle}
 use Rattle.shapes.specs.declared.Handle.TheVariants.{Opaque, Buffer}
 use Rattle.shapes.specs.declared.TypeLayout.{TypeLayout}
 use Rattle.shapes.specs.declared.TypeLayout.TheVariants as layout
-use Rattle.shapes.specs.declared.Answer as code
-use Rattle.shapes.specs.declared.Answer.TheVariants.{Laid, Refused}
+use Rattle.arith.specs.InCode.{OrRefusal}
+use Rattle.std.specs.Prelude.{Ok, Err}
 use Rattle.shapes.proofs.Held.{held_again}
 use Rattle.layout.specs.Arrays.{Answer, ArrayParams, length_or_zero, by_element, array_layout}
 
@@ -32,11 +32,11 @@ abbrev pub HandleTo : ℕ → Handle → Type 0
 HandleTo n Opaque = Unit {0}
 HandleTo n (Buffer m) = PartsTo n m.components
 
-abbrev pub AnswerTo : ℕ → code.Answer → Type 0
-AnswerTo n (Refused k) = Unit {0}
-AnswerTo n (Laid (layout.Handle h)) = HandleTo n h
-AnswerTo n (Laid (layout.HandleArray h k)) = HandleTo n h
-AnswerTo n (Laid (layout.Concrete m)) = PartsTo n m.components
+abbrev pub AnswerTo : ℕ → OrRefusal TypeLayout → Type 0
+AnswerTo n (Err k) = Unit {0}
+AnswerTo n (Ok (layout.Handle h)) = HandleTo n h
+AnswerTo n (Ok (layout.HandleArray h k)) = HandleTo n h
+AnswerTo n (Ok (layout.Concrete m)) = PartsTo n m.components
 
 module _ (n m : ℕ) (le : n ≤ m) where
   parts_raised : (c : Components) → PartsTo n c → PartsTo m c
@@ -48,11 +48,11 @@ module _ (n m : ℕ) (le : n ≤ m) where
   handle_raised Opaque h = tt
   handle_raised (Buffer x) h = parts_raised x.components h
 
-  pub raised : (a : code.Answer) → AnswerTo n a → AnswerTo m a
-  raised (Refused k) h = tt
-  raised (Laid (layout.Handle k)) h = handle_raised k h
-  raised (Laid (layout.HandleArray k l)) h = handle_raised k h
-  raised (Laid (layout.Concrete x)) h = parts_raised x.components h
+  pub raised : (a : OrRefusal TypeLayout) → AnswerTo n a → AnswerTo m a
+  raised (Err k) h = tt
+  raised (Ok (layout.Handle k)) h = handle_raised k h
+  raised (Ok (layout.HandleArray k l)) h = handle_raised k h
+  raised (Ok (layout.Concrete x)) h = parts_raised x.components h
 
 module _ (f g : Reading) (n : ℕ) (agree : (s c : ℕ) → s + c ≤ n → f s c ≡ g s c) where
   parts_same : (c : Components) → PartsTo n c → parts_by f c ≡ parts_by g c
@@ -67,11 +67,11 @@ module _ (f g : Reading) (n : ℕ) (agree : (s c : ℕ) → s + c ≤ n → f s 
   handle_same Opaque h = refl
   handle_same (Buffer m) h = ap def.Buffer (memory_same m h)
 
-  pub reads_same : (a : code.Answer) → AnswerTo n a → answer_by f a ≡ answer_by g a
-  reads_same (Refused k) h = refl
-  reads_same (Laid (layout.Handle k)) h = rw (handle_same k h)
-  reads_same (Laid (layout.HandleArray k l)) h = rw (handle_same k h)
-  reads_same (Laid (layout.Concrete m)) h = rw (memory_same m h)
+  pub reads_same : (a : OrRefusal TypeLayout) → AnswerTo n a → answer_by f a ≡ answer_by g a
+  reads_same (Err k) h = refl
+  reads_same (Ok (layout.Handle k)) h = rw (handle_same k h)
+  reads_same (Ok (layout.HandleArray k l)) h = rw (handle_same k h)
+  reads_same (Ok (layout.Concrete m)) h = rw (memory_same m h)
 
 -- ---- arrays reach as far as their elements
 
@@ -86,18 +86,18 @@ module _ (n : ℕ) where
   held_and (ok a) next h = h
   held_and (refused k) next h = tt
 
-  element_to : (cfg : LayoutConfig) (p : ArrayParams) (l : TypeLayout) → AnswerTo n (Laid l) → AnswerTo n (held (by_element cfg p (layout_by itself l)))
+  element_to : (cfg : LayoutConfig) (p : ArrayParams) (l : TypeLayout) → AnswerTo n (Ok l) → AnswerTo n (held (by_element cfg p (layout_by itself l)))
   unfolding by_element
-  element_to cfg p (layout.Handle k) h = subst (AnswerTo n) (sym (held_again (Laid (layout.HandleArray k (length_or_zero p.fixed_len))))) h
+  element_to cfg p (layout.Handle k) h = subst (AnswerTo n) (sym (held_again (Ok (layout.HandleArray k (length_or_zero p.fixed_len))))) h
   element_to cfg p (layout.HandleArray k l) h = tt
   element_to cfg p (layout.Concrete m) h = held_and _ _ (held_then _ _ λ stride. held_and _ _ (held_then _ _ λ legacy. held_then _ _ λ size. tt))
 
-  answer_to : (cfg : LayoutConfig) (p : ArrayParams) (a : code.Answer) → AnswerTo n a → AnswerTo n (held (answer_by itself a >>= by_element cfg p))
+  answer_to : (cfg : LayoutConfig) (p : ArrayParams) (a : OrRefusal TypeLayout) → AnswerTo n a → AnswerTo n (held (answer_by itself a >>= by_element cfg p))
   unfolding ◌>>=◌
-  answer_to cfg p (Refused k) h = tt
-  answer_to cfg p (Laid l) h = element_to cfg p l h
+  answer_to cfg p (Err k) h = tt
+  answer_to cfg p (Ok l) h = element_to cfg p l h
 
-  pub array_to : (cfg : LayoutConfig) (b : ℕ → code.Answer) (p : ArrayParams) → AnswerTo n (b p.elem) → AnswerTo n (held (array_layout cfg (λ t. answer_by itself (b t)) p))
+  pub array_to : (cfg : LayoutConfig) (b : ℕ → OrRefusal TypeLayout) (p : ArrayParams) → AnswerTo n (b p.elem) → AnswerTo n (held (array_layout cfg (λ t. answer_by itself (b t)) p))
   unfolding array_layout
   array_to cfg b p h = held_and _ _ (answer_to cfg p (b p.elem) h)
 

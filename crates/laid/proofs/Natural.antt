@@ -14,8 +14,8 @@ use Rattle.shapes.specs.declared.LayoutConfig.{LayoutConfig}
 use Rattle.shapes.specs.declared.MemTypeLayout.{MemTypeLayout}
 use Rattle.shapes.specs.declared.TypeLayout.{TypeLayout}
 use Rattle.shapes.specs.declared.TypeLayout.TheVariants.{Handle, HandleArray, Concrete}
-use Rattle.shapes.specs.declared.Answer as code
-use Rattle.shapes.specs.declared.Answer.TheVariants.{Laid, Refused}
+use Rattle.arith.specs.InCode.{OrRefusal}
+use Rattle.std.specs.Prelude.{Ok, Err}
 use Rattle.shapes.proofs.Held.{held_again}
 use Rattle.layout.specs.Arrays.{Answer, ArrayParams, has_zero_length, rounded, stride_of, by_element, array_layout}
 use Rattle.layout.specs.Structs.{in_memory, member_layouts, final_size, Extent, no_members, place_given, place_in_turn, place}
@@ -55,41 +55,41 @@ element_same cfg p m f g = rw (stride_same cfg p.stride m f g)
 by_element_reads : (cfg : LayoutConfig) (p : ArrayParams) (l : TypeLayout) (f : Reading)
     → answer_by f (held (by_element cfg p (layout_by itself l))) ≡ by_element cfg p (layout_by f l)
 unfolding by_element Closed
-by_element_reads cfg p (Handle h) f = ap (answer_by f) (held_again (Laid (HandleArray h _)))
+by_element_reads cfg p (Handle h) f = ap (answer_by f) (held_again (Ok (HandleArray h _)))
 by_element_reads cfg p (HandleArray h n) f = refl
 by_element_reads cfg p (Concrete m) f = elements_closed cfg p (memory_by itself m) f ∙ element_same cfg p m itself f
 
-pub array_reads : (cfg : LayoutConfig) (b : ℕ → code.Answer) (p : ArrayParams) (f : Reading)
+pub array_reads : (cfg : LayoutConfig) (b : ℕ → OrRefusal TypeLayout) (p : ArrayParams) (f : Reading)
     → answer_by f (held (array_layout cfg (λ t. answer_by itself (b t)) p)) ≡ array_layout cfg (λ t. answer_by f (b t)) p
 unfolding array_layout ◌>>=◌ ◌>>◌ refuse◌when◌
 array_reads cfg b p f = by (has_zero_length p.fixed_len) (b p.elem)
   where
-    by : (t : Bool) (a : code.Answer)
+    by : (t : Bool) (a : OrRefusal TypeLayout)
         → answer_by f (held ((refuse zero_length when t) >> (answer_by itself a >>= by_element cfg p))) ≡ ((refuse zero_length when t) >> (answer_by f a >>= by_element cfg p))
     by true a = refl
-    by false (Refused n) = refl
-    by false (Laid l) = by_element_reads cfg p l f
+    by false (Err n) = refl
+    by false (Ok l) = by_element_reads cfg p l f
 
 -- ---- structs
 
-in_mem : code.Answer → Result MemTypeLayout
-in_mem (Refused n) = refused n
-in_mem (Laid (Handle h)) = refused handle_member
-in_mem (Laid (HandleArray h n)) = refused handle_member
-in_mem (Laid (Concrete m)) = ok m
+in_mem : OrRefusal TypeLayout → Result MemTypeLayout
+in_mem (Err e) = refused e.number
+in_mem (Ok (Handle h)) = refused handle_member
+in_mem (Ok (HandleArray h n)) = refused handle_member
+in_mem (Ok (Concrete m)) = ok m
 
-mems_of : (b : ℕ → code.Answer) → List ℕ → Result (List MemTypeLayout)
+mems_of : (b : ℕ → OrRefusal TypeLayout) → List ℕ → Result (List MemTypeLayout)
 mems_of b [] = ok []
 mems_of b (t ∷ ts) = in_mem (b t) >>= λ m. mems_of b ts >>= λ ms. ok (m ∷ ms)
 
-module _ (b : ℕ → code.Answer) (f : Reading) where
-  member_read : (a : code.Answer) (r : Result (List MemTypeLayout)) (q : Result (List def.MemTypeLayout)) → q ≡ (r >>= λ l. ok (map (memory_by f) l))
+module _ (b : ℕ → OrRefusal TypeLayout) (f : Reading) where
+  member_read : (a : OrRefusal TypeLayout) (r : Result (List MemTypeLayout)) (q : Result (List def.MemTypeLayout)) → q ≡ (r >>= λ l. ok (map (memory_by f) l))
       → (answer_by f a >>= λ l. in_memory l >>= λ m. q >>= λ ms. ok (m ∷ ms)) ≡ ((in_mem a >>= λ m. r >>= λ ms. ok (m ∷ ms)) >>= λ l. ok (map (memory_by f) l))
   unfolding in_mem ◌>>=◌
-  member_read (Refused n) r q h = refl
-  member_read (Laid (Handle k)) r q h = refl
-  member_read (Laid (HandleArray k n)) r q h = refl
-  member_read (Laid (Concrete m)) r q h = rw h (by r)
+  member_read (Err n) r q h = refl
+  member_read (Ok (Handle k)) r q h = refl
+  member_read (Ok (HandleArray k n)) r q h = refl
+  member_read (Ok (Concrete m)) r q h = rw h (by r)
     where
       by : (r : Result (List MemTypeLayout)) → ((r >>= λ l. ok (map (memory_by f) l)) >>= λ ms. ok (memory_by f m ∷ ms)) ≡ ((r >>= λ ms. ok (m ∷ ms)) >>= λ l. ok (map (memory_by f) l))
       by (ok l) = refl
@@ -144,7 +144,7 @@ module _ (cfg : LayoutConfig) (f g : Reading) where
   place_same [] l = in_turn_same (no_members cfg) l
   place_same (o ∷ os) l = rw (map_length l, given_same (no_members cfg) (o ∷ os) l)
 
-  memory_same : (b : ℕ → code.Answer) (types given : List ℕ) (r : DeclRow) → memory_of cfg (λ t. answer_by f (b t)) types given r ≡ memory_of cfg (λ t. answer_by g (b t)) types given r
+  memory_same : (b : ℕ → OrRefusal TypeLayout) (types given : List ℕ) (r : DeclRow) → memory_of cfg (λ t. answer_by f (b t)) types given r ≡ memory_of cfg (λ t. answer_by g (b t)) types given r
   unfolding memory_of ◌>>=◌
   memory_same b types given r = rw (mems_read b f types, mems_read b g types) (by (mems_of b types))
     where
@@ -154,7 +154,7 @@ module _ (cfg : LayoutConfig) (f g : Reading) where
       by (ok l) = rw (place_same given l)
       by (refused n) = refl
 
-  pub struct_same : (b : ℕ → code.Answer) (members given : List ℕ) (room : ℕ) (r : DeclRow)
+  pub struct_same : (b : ℕ → OrRefusal TypeLayout) (members given : List ℕ) (room : ℕ) (r : DeclRow)
       → struct_of_row cfg (λ t. answer_by f (b t)) members given room r ≡ struct_of_row cfg (λ t. answer_by g (b t)) members given room r
   unfolding struct_of_row
   struct_same b members given room r = rw (memory_same b (span_of members r.start r.count) (span_of given r.start r.read) r)

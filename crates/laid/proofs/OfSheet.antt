@@ -11,7 +11,7 @@ use Rattle.arith.specs.Refusals.{Result, refused, ◌>>◌, refuse◌unless◌, 
 use Rattle.spirv.specs.Decl.{Decl}
 use Rattle.shapes.specs.Rows.{answer_at, flat}
 use Rattle.shapes.specs.Spans.{answer_over}
-use Rattle.shapes.specs.declared.Answer.TheVariants.{Refused}
+use Rattle.arith.specs.InCode.{err}
 use Rattle.shapes.proofs.RowLaws.{answer_of_list}
 use Rattle.sheet.specs.Sheet.{declared}
 use Rattle.sheet.specs.Tables.{members_words, offsets_words}
@@ -51,7 +51,7 @@ rows_of_sheet s types members given offsets rest tables t =
     let os = offsets_of s types members given offsets in
     ap (λ (k : ℕ). answer_over os members (answer_at (flat rs ++ rest) k t)) (sym n)
     ∙ ap (answer_over os members) (answer_of_list rs rest t)
-    ∙ sym (get_or-map (answer_over os members) rs t (Refused misread))
+    ∙ sym (get_or-map (answer_over os members) rs t (err misread))
     ∙ ap (λ (l : List arrays.Answer). get_or l t (refused misread)) (laid_out s.setting s.types types members given offsets tables)
 
 -- a number that is no type

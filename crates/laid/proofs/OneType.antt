@@ -11,7 +11,7 @@ use Rattle.spirv.specs.Decl.{Decl, plain, is_struct}
 use Rattle.spirv.specs.Reduced.{reduced, decl_row}
 use Rattle.spirv.specs.Rows.{struct_row, plain_row}
 use Rattle.spirv.specs.declared.DeclRow.{DeclRow}
-use Rattle.spirv.specs.declared.RowReading.TheVariants.{Row}
+use Rattle.std.specs.Prelude.{Some}
 use Rattle.spirv.specs.declared.SpvType.{SpvType}
 use Rattle.spirv.specs.declared.SpvType.TheVariants as spv
 use Rattle.spirv.specs.declared.Length.TheVariants as length_of_lem
@@ -21,8 +21,9 @@ use Rattle.shapes.specs.Spans.{Reading, span_of, spans_of, answer_by, answer_ove
 use Rattle.shapes.specs.declared.LayoutConfig.{LayoutConfig}
 use Rattle.shapes.specs.declared.MaybeDynMemLayout.{MaybeDynMemLayout}
 use Rattle.rules.specs.Rules.{with_parts}
-use Rattle.shapes.specs.declared.Answer as code
-use Rattle.shapes.specs.declared.Answer.TheVariants.{Laid}
+use Rattle.arith.specs.InCode.{OrRefusal}
+use Rattle.shapes.specs.declared.TypeLayout as code
+use Rattle.std.specs.Prelude.{Ok}
 use Rattle.layout.specs.Arrays.{number_layout}
 use Rattle.layout.specs.Structs as structs
 use Rattle.layout.specs.Layouts.{Rule, of_setting, of_width, of_elements, of_members, of_handle, no_layout, rule_of, by_rule, layout_of}
@@ -43,13 +44,13 @@ NoMembers of_handle = Unit {0}
 NoMembers (no_layout n) = Unit {0}
 
 -- what is wanted of a type's answer and the list of offsets afterwards
-pub record Read (cfg : LayoutConfig) (b : ℕ → code.Answer) (members os : List ℕ) (start : ℕ) (d : Decl) (o : code.Answer × List ℕ) : Type 0 where
+pub record Read (cfg : LayoutConfig) (b : ℕ → OrRefusal code.TypeLayout) (members os : List ℕ) (start : ℕ) (d : Decl) (o : OrRefusal code.TypeLayout × List ℕ) : Type 0 where
   pub says : answer_over o.1 members o.0 ≡ layout_of cfg (λ t. answer_over os members (b t)) d
   pub reaches : AnswerTo (start + length d.members) o.0
   pub kept : (s c : ℕ) → s + c ≤ start → span_of o.1 s c ≡ span_of os s c
   pub long : length o.1 ≡ length os
 
-module _ (cfg : LayoutConfig) (b : ℕ → code.Answer) where
+module _ (cfg : LayoutConfig) (b : ℕ → OrRefusal code.TypeLayout) where
   -- ---- a type that is no struct
 
   rule_says : (f : Reading) (d₁ d₂ : Decl) (q : Rule) → NoMembers q → answer_by f (held (by_rule cfg (λ t. answer_by itself (b t)) d₁ q)) ≡ by_rule cfg (λ t. answer_by f (b t)) d₂ q
@@ -117,14 +118,14 @@ module _ (cfg : LayoutConfig) (b : ℕ → code.Answer) where
 
       -- the fields are read back as they were written
       block_reads : (f : Reading) (mem : MaybeDynMemLayout) (c : def.Components) → f start (length d.members) ≡ c
-          → answer_by f (Laid (block_or block (fields_at row mem))) ≡ ok (structs.block_or block (with_parts mem c))
+          → answer_by f (Ok (block_or block (fields_at row mem))) ≡ ok (structs.block_or block (with_parts mem c))
       block_reads f mem c h = by block
         where
-          by : (k : Bool) → answer_by f (Laid (block_or k (fields_at row mem))) ≡ ok (structs.block_or k (with_parts mem c))
+          by : (k : Bool) → answer_by f (Ok (block_or k (fields_at row mem))) ≡ ok (structs.block_or k (with_parts mem c))
           by true = rw h
           by false = rw h
 
-      block_reaches : (k : Bool) (mem : MaybeDynMemLayout) → AnswerTo (start + length d.members) (Laid (block_or k (fields_at row mem)))
+      block_reaches : (k : Bool) (mem : MaybeDynMemLayout) → AnswerTo (start + length d.members) (Ok (block_or k (fields_at row mem)))
       block_reaches true mem = omega arith
       block_reaches false mem = omega arith
 
@@ -147,8 +148,8 @@ module _ (cfg : LayoutConfig) (b : ℕ → code.Answer) where
 
     -- ---- any type
 
-    abbrev result : code.Answer × List ℕ
-    result = layout_of_row cfg (λ t. answer_by itself (b t)) members given os (Row (decl_row start d))
+    abbrev result : OrRefusal code.TypeLayout × List ℕ
+    result = layout_of_row cfg (λ t. answer_by itself (b t)) members given os (Some (decl_row start d))
 
     not_struct : is_struct d.type ≡ false → NoMembers (rule_of cfg d.type) → Read cfg b members os start d result
     unfolding layout_of_row decl_row
@@ -157,7 +158,7 @@ module _ (cfg : LayoutConfig) (b : ℕ → code.Answer) where
     is_struct_lem : (block : Bool) → d.type ≡ spv.Struct block → Holds start d members given (length os) → Read cfg b members os start d result
     unfolding layout_of_row rule_of
     is_struct_lem block e there =
-        subst (λ (r : DeclRow). Read cfg b members os start d (layout_of_row cfg (λ t. answer_by itself (b t)) members given os (Row r))) (sym (struct_row_lem block e there))
+        subst (λ (r : DeclRow). Read cfg b members os start d (layout_of_row cfg (λ t. answer_by itself (b t)) members given os (Some r))) (sym (struct_row_lem block e there))
         (subst (λ (t : SpvType). Read cfg b members os start d (by_rule_of_row cfg (λ t. answer_by itself (b t)) members given os (row block e there) (rule_of cfg t))) (sym e) (struct_read block e there))
 
     pub read_type : Holds start d members given (length os) → Read cfg b members os start d result

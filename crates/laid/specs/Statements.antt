@@ -5,13 +5,14 @@ use Rattle.std.proofs.Math.ListN.{get_elem?}
 use Rattle.spirv.specs.Decl.{Decl}
 use Rattle.spirv.specs.Reduced.{decl_row}
 use Rattle.spirv.specs.Rows.{row_at}
-use Rattle.spirv.specs.declared.RowReading.TheVariants.{Row}
+use Rattle.std.specs.Prelude.{Some}
 use Rattle.shapes.specs.declared.LayoutConfig.{LayoutConfig}
 use Rattle.shapes.specs.Spans.{answer_over}
 use Rattle.sheet.specs.Sheet.{Sheet, member_count}
 use Rattle.sheet.specs.Tables.{span_start, over, types_words, members_words, offsets_words}
 use Rattle.shapes.specs.Rows.{flat}
-use Rattle.shapes.specs.declared.Answer.{Answer}
+use Rattle.arith.specs.InCode.{OrRefusal}
+use Rattle.shapes.specs.declared.TypeLayout.{TypeLayout}
 use Rattle.layout.specs.Layouts.{layouts, answer_in}
 use Rattle.layout.specs.Lookup.{lookup}
 use Rattle.components.specs.Found.{answers_in, lookup_in}
@@ -20,7 +21,7 @@ use Rattle.records.specs.Records.{records}
 
 -- a row for each declaration, and its members and given offsets at the running member count
 pub record Tables (ds : List Decl) (types members given : List ℕ) (room : ℕ) : Type 0 where
-  pub row : (t : ℕ) (d : Decl) → get_elem? ds t ≡ some d → row_at types t ≡ Row (decl_row (span_start ds t) d)
+  pub row : (t : ℕ) (d : Decl) → get_elem? ds t ≡ some d → row_at types t ≡ Some (decl_row (span_start ds t) d)
   pub span : (t : ℕ) (d : Decl) → get_elem? ds t ≡ some d → Holds (span_start ds t) d members given room
 
 -- the records of all types, read with the offsets that were written, are the layouts of the declarations
@@ -39,7 +40,7 @@ SheetTables =
 
 module _ (s : Sheet) (types members given offsets : List ℕ) where
   -- what the code's tables hold of a sheet: its answers, and its offsets
-  abbrev pub answers_of : List Answer
+  abbrev pub answers_of : List (OrRefusal TypeLayout)
   answers_of = (records s.setting types members given offsets (length s.types)).0
 
   abbrev pub offsets_of : List ℕ
