@@ -11,6 +11,7 @@ use arith::refusal::Refusal;
 use rules::ArrayParams;
 use shapes::{Handle, LayoutConfig, TypeLayout, rows};
 use spirv::{DeclRow, Length, SpvType, Stride};
+use structs::Members;
 
 // Which rule a type follows.
 #[derive(Clone, Copy, Debug, PartialEq, Eq, Hash)]
@@ -60,24 +61,22 @@ fn rule_of(cfg: LayoutConfig, ty: SpvType) -> Result<Rule, Refusal>
 // The answer of a type by its rule, from the first n layouts; a struct's offsets are written.
 #[tactic(auto, using(shapes::proofs::Held::decided), unfolding(crate::specs::Records::by_rule_of_row, layout::specs::Layouts::by_rule, layout::specs::Arrays::array_layout))]
 fn by_rule(
-    cfg: LayoutConfig,
-    layouts: &[u32],
-    n: u32,
-    members: &[u32],
-    given: &[u32],
+    all: &Members<'_>,
     offsets: &mut [u32],
     row: DeclRow,
     rule: Rule,
 ) -> Result<TypeLayout, Refusal>
-    ensures { both result offsets.new ≡ by_rule_of_row cfg (below_in layouts.now n) members.now given.now offsets.old row (rule_by cfg rule) }
+    ensures { both result offsets.new ≡ by_rule_of_row all.now.cfg (below_in all.now.layouts.now all.now.n) all.now.types.now all.now.given.now offsets.old row (rule_by all.now.cfg rule) }
 {
     match rule {
         Rule::OfSetting { size, align } => Ok(rules::scalar_with_size_and_align(size, align)),
         Rule::OfWidth(width) => rules::scalar(width),
-        Rule::OfElements(p) => rules::array(cfg, p, rows::answer_at(layouts, n, p.elem)),
-        Rule::OfMembers(block) => {
-            structs::struct_layout(cfg, layouts, n, members, given, offsets, block, row)
-        }
+        Rule::OfElements(p) => rules::array(
+            all.cfg,
+            p,
+            rows::answer_at(all.layouts, all.n, p.elem),
+        ),
+        Rule::OfMembers(block) => structs::struct_layout(all, offsets, block, row),
         Rule::OfHandle => Ok(TypeLayout::Handle(Handle::Opaque)),
     }
 }
@@ -85,19 +84,15 @@ fn by_rule(
 // The answer of a row; one that no sheet makes is refused with 1.
 #[tactic(auto, unfolding(crate::specs::Records::layout_of_row, crate::specs::Records::by_rule_of_row, layout::specs::Layouts::by_rule))]
 pub fn layout_of(
-    cfg: LayoutConfig,
-    layouts: &[u32],
-    n: u32,
-    members: &[u32],
-    given: &[u32],
+    all: &Members<'_>,
     offsets: &mut [u32],
     row: Option<DeclRow>,
 ) -> Result<TypeLayout, Refusal>
-    ensures { both result offsets.new ≡ layout_of_row cfg (below_in layouts.now n) members.now given.now offsets.old row }
+    ensures { both result offsets.new ≡ layout_of_row all.now.cfg (below_in all.now.layouts.now all.now.n) all.now.types.now all.now.given.now offsets.old row }
 {
     let r = row.ok_or(Refusal::MISREAD)?;
-    let rule = rule_of(cfg, r.ty)?;
-    by_rule(cfg, layouts, n, members, given, offsets, r, rule)
+    let rule = rule_of(all.cfg, r.ty)?;
+    by_rule(all, offsets, r, rule)
 }
 
 // The row of type i, from the rows below it.
@@ -114,7 +109,14 @@ fn add_record(
     ensures { both offsets.new layouts.new ≡ record_at cfg i types.now members.now given.now offsets.old layouts.old }
 {
     let row = spirv::read_row(types, i);
-    let a = layout_of(cfg, layouts, i, members, given, offsets, row);
+    let below = Members {
+        cfg,
+        layouts,
+        n: i,
+        types: members,
+        given,
+    };
+    let a = layout_of(&below, offsets, row);
     rows::write_row(layouts, i, a);
 }
 

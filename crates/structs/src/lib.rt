@@ -24,14 +24,14 @@ pub struct Placed {
     pub extent: MaybeDynMemLayout,
 }
 
-// A struct's members, their types and given offsets, beside the setting and the layouts of the first n types.
+// Members of structs, their types and given offsets, beside the setting and the layouts of the first n types.
 #[derive(Clone, Copy)]
-struct Members<'a> {
-    cfg: LayoutConfig,
-    layouts: &'a [u32],
-    n: u32,
-    types: &'a [u32],
-    given: &'a [u32],
+pub struct Members<'a> {
+    pub cfg: LayoutConfig,
+    pub layouts: &'a [u32],
+    pub n: u32,
+    pub types: &'a [u32],
+    pub given: &'a [u32],
 }
 
 // ---- one member
@@ -264,28 +264,22 @@ fn block_or(block: bool, r: DeclRow, mem: MaybeDynMemLayout) -> TypeLayout
 // A struct by its row; its members' offsets are written only where it is not refused.
 #[tactic(auto, unfolding(arith::proofs::Opened::opened, crate::specs::Rows::struct_of_row, crate::specs::Rows::struct_both))]
 pub fn struct_layout(
-    cfg: LayoutConfig,
-    layouts: &[u32],
-    n: u32,
-    members: &[u32],
-    given: &[u32],
+    all: &Members<'_>,
     offsets: &mut [u32],
     block: bool,
     r: DeclRow,
 ) -> Result<TypeLayout, Refusal>
-    ensures { both result offsets.new ≡ struct_both block r offsets.old (struct_of_row cfg (below_in layouts.now n) members.now given.now (length offsets.old) r) }
+    ensures { both result offsets.new ≡ struct_both block r offsets.old (struct_of_row all.now.cfg (below_in all.now.layouts.now all.now.n) all.now.types.now all.now.given.now (length offsets.old) r) }
 {
-    if !within(r, members.len(), given.len(), offsets.len()) {
+    if !within(r, all.types.len(), all.given.len(), offsets.len()) {
         return Err(Refusal::MISREAD);
     }
-    let types = rows::span(members, r.start, r.count);
-    let given = rows::span(given, r.start, r.read);
+    let types = rows::span(all.types, r.start, r.count);
+    let given = rows::span(all.given, r.start, r.read);
     let own = Members {
-        cfg,
-        layouts,
-        n,
         types,
         given,
+        ..*all
     };
     let mem = own.memory(r)?;
     own.write_offsets(offsets, r.start as usize);
