@@ -14,6 +14,7 @@ ghost use Rattle.pointers.specs.OverTables.{pointee_of_row, pointee_at, length_o
 ghost use Rattle.pointers.specs.InCode.{as_field, as_length, as_variable};
 
 use arith::refusal::Refusal;
+use shapes::tables::{Layouts, Tables};
 use shapes::{Components, Handle, MemLayout, MemTypeLayout, TypeLayout};
 use spirv::SpvType;
 
@@ -94,14 +95,14 @@ fn field_at(offsets: &[u32], types: &[u32], member: u32) -> Result<Field, Refusa
 }
 
 #[tactic(auto, unfolding(lower::specs::Other::member_of))]
-fn member_of(offsets: &[u32], members: &[u32], c: Components, member: u32) -> Result<Field, Refusal>
-    ensures { result ≡ as_field (member_of (parts_by (spans_of offsets.now members.now) c) member) }
+fn member_of(layouts: &Layouts<'_>, c: Components, member: u32) -> Result<Field, Refusal>
+    ensures { result ≡ as_field (member_of (parts_by (spans_of layouts.now.offsets.now layouts.now.members.now) c) member) }
 {
     let Components::Fields { start, count } = c else {
         return Err(Refusal::FIELD_OUTSIDE);
     };
-    let os = shapes::rows::span(offsets, start, count);
-    let ts = shapes::rows::span(members, start, count);
+    let os = shapes::rows::span(layouts.offsets, start, count);
+    let ts = shapes::rows::span(layouts.members, start, count);
     field_at(os, ts, member)
 }
 
@@ -131,18 +132,11 @@ fn stride_of_part(l: TypeLayout) -> Result<u32, Refusal>
 
 // Of a buffer's member.
 #[tactic(auto, unfolding(arith::proofs::Opened::opened, lower::specs::Other::length_in))]
-fn length_in(
-    layouts: &[u32],
-    n: u32,
-    offsets: &[u32],
-    members: &[u32],
-    m: MemTypeLayout,
-    member: u32,
-) -> Result<ArrayLength, Refusal>
-    ensures { result ≡ as_length (length_in (answers_in layouts.now n offsets.now members.now) (memory_by (spans_of offsets.now members.now) m) member) }
+fn length_in(layouts: &Layouts<'_>, m: MemTypeLayout, member: u32) -> Result<ArrayLength, Refusal>
+    ensures { result ≡ as_length (length_in (answers_in layouts.now.rows.now layouts.now.count layouts.now.offsets.now layouts.now.members.now) (memory_by (spans_of layouts.now.offsets.now layouts.now.members.now) m) member) }
 {
-    let f = member_of(offsets, members, m.components, member)?;
-    let part = shapes::rows::answer_at(layouts, n, f.ty)?;
+    let f = member_of(layouts, m.components, member)?;
+    let part = layouts.answer_at(f.ty)?;
     let stride = stride_of_part(part)?;
     if m.mem.fixed_base.size != f.offset {
         return Err(Refusal::NOT_LAST);
@@ -155,39 +149,23 @@ fn length_in(
 
 // Of a layout's member; 25 where it is no buffer.
 #[tactic(auto, unfolding(arith::proofs::Opened::opened, lower::specs::Other::buffer_of))]
-fn length_of(
-    layouts: &[u32],
-    n: u32,
-    offsets: &[u32],
-    members: &[u32],
-    l: TypeLayout,
-    member: u32,
-) -> Result<ArrayLength, Refusal>
-    ensures { result ≡ as_length (length_of (answers_in layouts.now n offsets.now members.now) (layout_by (spans_of offsets.now members.now) l) member) }
+fn length_of(layouts: &Layouts<'_>, l: TypeLayout, member: u32) -> Result<ArrayLength, Refusal>
+    ensures { result ≡ as_length (length_of (answers_in layouts.now.rows.now layouts.now.count layouts.now.offsets.now layouts.now.members.now) (layout_by (spans_of layouts.now.offsets.now layouts.now.members.now) l) member) }
 {
     match l {
-        TypeLayout::Handle(Handle::Buffer(m)) => {
-            length_in(layouts, n, offsets, members, m, member)
-        }
+        TypeLayout::Handle(Handle::Buffer(m)) => { length_in(layouts, m, member) }
         _ => Err(Refusal::NO_BUFFER),
     }
 }
 
 #[tactic(auto, unfolding(arith::proofs::Opened::opened, lower::specs::Other::length_by))]
-pub fn array_length(
-    n: u32,
-    types: &[u32],
-    layouts: &[u32],
-    offsets: &[u32],
-    members: &[u32],
-    ptr: u32,
-    member: u32,
-) -> Result<ArrayLength, Refusal>
-    ensures { result ≡ as_length (length_over n types.now layouts.now offsets.now members.now ptr member) }
+pub fn array_length(tables: &Tables<'_>, ptr: u32, member: u32) -> Result<ArrayLength, Refusal>
+    ensures { result ≡ as_length (length_over tables.now.layouts.count tables.now.types.now tables.now.layouts.rows.now tables.now.layouts.offsets.now tables.now.layouts.members.now ptr member) }
 {
-    let block = pointee_at(types, n, ptr)?;
-    let l = shapes::rows::answer_at(layouts, n, block)?;
-    length_of(layouts, n, offsets, members, l, member)
+    let layouts = &tables.layouts;
+    let block = pointee_at(tables.types, layouts.count, ptr)?;
+    let l = layouts.answer_at(block)?;
+    length_of(layouts, l, member)
 }
 
 // ---- local variable (OpVariable)
@@ -204,15 +182,10 @@ fn fixed_memory(l: TypeLayout) -> Option<MemLayout>
 }
 
 #[tactic(auto, unfolding(arith::proofs::Opened::opened, lower::specs::Other::variable_by))]
-pub fn local_variable(
-    n: u32,
-    types: &[u32],
-    layouts: &[u32],
-    ptr: u32,
-) -> Result<Option<MemLayout>, Refusal>
-    ensures { (f : Reading) → result ≡ as_variable (variable_by (pointee_at types.now n) (λ t. answer_by f (answer_at layouts.now n t)) ptr) }
+pub fn local_variable(tables: &Tables<'_>, ptr: u32) -> Result<Option<MemLayout>, Refusal>
+    ensures { (f : Reading) → result ≡ as_variable (variable_by (pointee_at tables.now.types.now tables.now.layouts.count) (λ t. answer_by f (answer_at tables.now.layouts.rows.now tables.now.layouts.count t)) ptr) }
 {
-    let t = pointee_at(types, n, ptr)?;
-    let l = shapes::rows::answer_at(layouts, n, t)?;
+    let t = pointee_at(tables.types, tables.layouts.count, ptr)?;
+    let l = tables.layouts.answer_at(t)?;
     Ok(fixed_memory(l))
 }
