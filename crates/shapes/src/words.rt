@@ -114,6 +114,7 @@ fn answer_of(ws: &[u32]) -> Result<TypeLayout, Refusal>
 }
 
 // The answer that words hold is the one whose words they are; words that are none's are refused with 1.
+#[tactic(auto, using(crate::proofs::ReadsBack::not_ten), unfolding(crate::specs::Words::decode))]
 pub fn answer(ws: &[u32]) -> Result<TypeLayout, Refusal>
     ensures { result ≡ decode ws.now }
 {
@@ -121,8 +122,7 @@ pub fn answer(ws: &[u32]) -> Result<TypeLayout, Refusal>
         return Err(Refusal::MISREAD);
     }
     let a = answer_of(ws);
-    let back = words(a);
-    if spirv::same_words(&back, ws) {
+    if spirv::same_words(&words(a), ws) {
         a
     } else {
         Err(Refusal::MISREAD)
