@@ -8,9 +8,27 @@ use lib.ListN.{length, get_or}
 use lib.Seq.{length-take-le}
 use borrow.Author.Tests.{ne_eqb}
 use Rattle.sheet.specs.Grammar.{grammar, form_of, read_line}
+use Rattle.std.specs.Prelude as code
+use Rattle.lines.specs.declared.SheetLine.{SheetLine}
+use Rattle.lines.specs.Says.{Says}
 use Rattle.fields.specs.Pieces.{part, Piece, behind}
 use Rattle.fields.proofs.Pieces.{fields_of}
-use Rattle.fields.proofs.Same.{other_length}
+use Rattle.decimal.specs.Text.{same}
+use mathlib.Core.Bool.{Bool, true, false, ◌&&◌}
+use mathlib.Core.Path.{refl, ap}
+use lib.Dec.{eqb}
+use Prim.Native.Nat.{suc}
+
+-- texts of two lengths are not the same
+other_length : (a b : List ℕ) → (length a ≡ length b → ⊥) → same a b ≡ false
+other_length [] [] h = absurd (h refl)
+other_length [] (y ∷ b) h = refl
+other_length (x ∷ a) [] h = refl
+other_length (x ∷ a) (y ∷ b) h = go (eqb x y) (other_length a b (λ e. h (ap suc e)))
+  where
+    go : (t : Bool) → same a b ≡ false → t && same a b ≡ false
+    go true e = e
+    go false e = refl
 
 first : (above : ℕ) {line : List ℕ} {e : ℕ} → Piece 44 line 0 e → read_line above line ≡ form_of (grammar above) (part 0 e line) (behind line e)
 unfolding read_line
@@ -23,6 +41,11 @@ one_byte (b ∷ line) e h q = rw q
 -- a first field of one byte
 pub one : (above : ℕ) {line : List ℕ} {e : ℕ} → Piece 44 line 0 e → e ≡ 1 → {t : ℕ} → get_or line 0 0 ≡ t → read_line above line ≡ form_of (grammar above) (t ∷ []) (behind line e)
 one above {line} {e} p q k = first above p ∙ (rw (one_byte line e p.within q, k))
+
+-- a line that begins with the letter t says what its form says
+pub letter : (above : ℕ) {line : List ℕ} {e : ℕ} (t : ℕ) (r : code.Option SheetLine) → Piece 44 line 0 e → e ≡ 1 → get_or line 0 0 ≡ t
+    → Says above line r (form_of (grammar above) (t ∷ []) (behind line e)) → Says above line r (read_line above line)
+letter above t r p q k h = rw (one above p q k) h
 
 -- no letter has another length
 other_form : (above : ℕ) (f : List ℕ) (fs : List (List ℕ)) → (length f ≡ 1 → ⊥) → form_of (grammar above) f fs ≡ none
@@ -100,3 +123,5 @@ unknown above {t} fs u = rw (
   ne_eqb t 76 u.no_l,
   ne_eqb t 88 u.no_x,
 )
+
+pub ruleset by_letter = (letter, other)

@@ -2,12 +2,16 @@
 use Prim.Native.Nat.{ℕ, ◌+◌, ◌≤◌, ◌<◌}
 use native.Mathlib.Omega.{arith}
 use mathlib.Core.Path.{◌≡◌, refl, sym, ap, ◌∙◌}
-use mathlib.Core.Bool.{Bool}
+use mathlib.Core.Bool.{Bool, true, false}
 use mathlib.Core.List.{List, [], ◌∷◌, ◌++◌, append_assoc, append-nil}
 use mathlib.Core.Option.{Option, none, some}
-use borrow.Author.Tests.{lt-ltb, eq-eqb, ne_eqb}
+use lib.Dec.{leb, eqb}
+use borrow.Author.Tests.{lt-ltb, eq-eqb, ne_eqb, leb-true, leb-false, eqb-true, eqb-false}
 use lib.ListN.{length, length-append}
 use lib.Seq.{sets, length-sets}
+use Rattle.std.specs.Prelude as code
+use Rattle.std.specs.Prelude.{Some, None}
+use Rattle.std.specs.Bool.{then_some}
 use Rattle.arith.specs.Options.{◌>>=◌}
 use Rattle.arith.proofs.Results.{no_some, some_is}
 use Rattle.spirv.specs.declared.SpvType.{SpvType}
@@ -18,15 +22,18 @@ use Rattle.spirv.specs.Rows.{encode_index}
 use Rattle.spirv.specs.Questions.{Question}
 use Rattle.arith.proofs.Stores.{sets_append}
 use Rattle.sheet.specs.Fields.{read_type, read_index, read_all, end, types, indices}
-use Rattle.sheet.specs.Grammar.{Declared, Asked, declare, declare_struct}
+use Rattle.sheet.specs.Grammar.{Line, Setting, Declared, Decorated, Asked, declare, declare_struct}
+use Rattle.shapes.specs.declared.LayoutConfig.{LayoutConfig}
+use Rattle.spirv.specs.declared.MemberDecoration.{MemberDecoration}
 use Rattle.fields.specs.Pieces.{behind}
 use Rattle.fields.specs.Took.{Got, Lost}
 use Rattle.fields.proofs.Pieces.{split_some, behind_none}
+use Rattle.fields.proofs.Took.{got, lost, got_both, lost_both}
 use Rattle.lines.specs.declared.Ask.{Ask}
 use Rattle.lines.specs.declared.Ask.TheVariants as ask
-use Rattle.lines.specs.declared.Count.{Count}
-use Rattle.lines.specs.declared.Count.TheVariants as count
-use Rattle.lines.specs.Says.{count_of, question_of, Declares, Asks, counted_from, index_words}
+use Rattle.lines.specs.declared.SheetLine.{SheetLine}
+use Rattle.lines.specs.declared.SheetLine.TheVariants as says
+use Rattle.lines.specs.Says.{count_of, question_of, Declares, Asks, Says, counted_from, index_words}
 
 -- ---- none
 
@@ -41,11 +48,33 @@ not_ended a line e h = let q = some_behind line e h in rw q.2
 pub ended : {A : Type 0} (a : A) (line : List ℕ) (e : ℕ) → length line ≤ e → end a (behind line e) ≡ some a
 ended a line e h = rw (behind_none line e h)
 
-pub declares : (above : ℕ) (line : List ℕ) (t : SpvType) (e : ℕ) → length line ≤ e → Declares above line t 0 e (end (declare t) (behind line e))
+declares : (above : ℕ) (line : List ℕ) (t : SpvType) (e : ℕ) → length line ≤ e → Declares above line t 0 e (end (declare t) (behind line e))
 declares above line t e h = record { members = []; read = rw (behind_none line e h); count = refl; told = ended (declare t) line e h }
 
-pub asks : (line : List ℕ) (a : Ask) (e : ℕ) → length line ≤ e → count_of a ≡ 0 → Asks line a e (end (Asked (question_of a [])) (behind line e))
+asks : (line : List ℕ) (a : Ask) (e : ℕ) → length line ≤ e → count_of a ≡ 0 → Asks line a e (end (Asked (question_of a [])) (behind line e))
 asks line a e h z = record { indices = []; read = rw (behind_none line e h); count = sym z; told = ended (Asked (question_of a [])) line e h }
+
+-- what is said where the line ends
+said : (above : ℕ) (line : List ℕ) (e : ℕ) (w : SheetLine) (l : Line) {r : code.Option SheetLine} → r ≡ then_some (leb (length line) e) w
+    → (length line ≤ e → Says above line (Some w) (end l (behind line e))) → Says above line r (end l (behind line e))
+said above line e w l {r} q h = rw q (by (leb (length line) e) refl)
+  where
+    by : (t : Bool) → leb (length line) e ≡ t → Says above line (then_some t w) (end l (behind line e))
+    by true k = h (leb-true (length line) e k)
+    by false k = not_ended l line e (leb-false (length line) e k)
+
+module _ (above : ℕ) (line : List ℕ) (e : ℕ) {r : code.Option SheetLine} where
+  pub setting_ends : (g : LayoutConfig) → r ≡ then_some (leb (length line) e) (says.Setting g) → Says above line r (end (Setting g) (behind line e))
+  setting_ends g q = said above line e (says.Setting g) (Setting g) q (λ h. ended (Setting g) line e h)
+
+  pub decoration_ends : (d : MemberDecoration) → r ≡ then_some (leb (length line) e) (says.Decorated d) → Says above line r (end (Decorated d) (behind line e))
+  decoration_ends d q = said above line e (says.Decorated d) (Decorated d) q (λ h. ended (Decorated d) line e h)
+
+  pub type_ends : (t : SpvType) → r ≡ then_some (leb (length line) e) (says.Declared t 0 e) → Says above line r (end (declare t) (behind line e))
+  type_ends t q = said above line e (says.Declared t 0 e) (declare t) q (declares above line t e)
+
+  pub question_ends : (a : Ask) → count_of a ≡ 0 → r ≡ then_some (leb (length line) e) (says.Asked a e) → Says above line r (end (Asked (question_of a [])) (behind line e))
+  question_ends a z q = said above line e (says.Asked a e) (Asked (question_of a [])) q (λ h. asks line a e h z)
 
 -- ---- all of one kind
 
@@ -83,15 +112,15 @@ module _ {A : Type 0} {read : List ℕ → Option A} {line : List ℕ} {e : ℕ}
     where
       go : (o : Option (List A)) → counted_from n (consed a o) ≡ counted_from (n + 1) o
       go none = refl
-      go (some rest) = ap count.Of (omega arith)
+      go (some rest) = ap Some (omega arith)
 
-  pub count_lost : Lost read line e → e < length line → counted_from n (read_all read (behind line e)) ≡ count.Misread
+  pub count_lost : Lost read line e → e < length line → counted_from n (read_all read (behind line e)) ≡ None
   unfolding counted_from
   count_lost l h = rw (all_lost l h)
 
-pub count_all : {A : Type 0} (read : List ℕ → Option A) (line : List ℕ) (e n : ℕ) → length line ≤ e → counted_from n (read_all read (behind line e)) ≡ count.Of n
+pub count_all : {A : Type 0} (read : List ℕ → Option A) (line : List ℕ) (e n : ℕ) → length line ≤ e → counted_from n (read_all read (behind line e)) ≡ Some n
 unfolding counted_from
-count_all read line e n h = rw (all_ended read line e h) (ap count.Of (omega arith))
+count_all read line e n h = rw (all_ended read line e h) (ap Some (omega arith))
 
 -- what a count tells
 record Counts {A : Type 0} (o : Option (List A)) (k : ℕ) : Type 0 where
@@ -99,15 +128,15 @@ record Counts {A : Type 0} (o : Option (List A)) (k : ℕ) : Type 0 where
   read : o ≡ some all
   count : length all ≡ k
 
-counts : {A : Type 0} (o : Option (List A)) {r : Count} {k : ℕ} → r ≡ counted_from 0 o → r ≡ count.Of k → Counts o k
+counts : {A : Type 0} (o : Option (List A)) {k : ℕ} → Some k ≡ counted_from 0 o → Counts o k
 unfolding counted_from
-counts none p q = absurd (let z : ◌≡◌ {A = ℕ} 0 1 = cc in omega arith)
-counts (some xs) {r} {k} p q = let e : 0 + length xs ≡ k = cc in record { all = xs; read = refl; count = omega arith }
+counts none p = absurd (let z : ◌≡◌ {A = ℕ} 0 1 = cc in omega arith)
+counts (some xs) {k} p = let e : k ≡ 0 + length xs = cc in record { all = xs; read = refl; count = omega arith }
 
-no_count : {A : Type 0} (o : Option (List A)) {r : Count} → r ≡ counted_from 0 o → r ≡ count.Misread → o ≡ none
+no_count : {A : Type 0} (o : Option (List A)) → None ≡ counted_from 0 o → o ≡ none
 unfolding counted_from
-no_count none p q = refl
-no_count (some xs) p q = absurd (let z : ◌≡◌ {A = ℕ} 0 1 = cc in omega arith)
+no_count none p = refl
+no_count (some xs) p = absurd (let z : ◌≡◌ {A = ℕ} 0 1 = cc in omega arith)
 
 -- ---- a struct's members, and a chain's indices
 
@@ -120,30 +149,32 @@ chain_of : (op : ChainOp) (ptr : ℕ) (o : Option (List Index)) (xs : List Index
 unfolding ◌>>=◌
 chain_of op ptr o xs q = rw q
 
-module _ (above : ℕ) (line : List ℕ) (at : ℕ) {r : Count} (block : Bool) (n : ℕ) (p : r ≡ counted_from 0 (read_all (read_type above) (behind line at))) where
-  pub struct_lost : r ≡ count.Misread → types above (λ ms. declare_struct block n ms) (behind line at) ≡ none
+module _ (above : ℕ) (line : List ℕ) (at : ℕ) (block : Bool) (n : ℕ) where
+  pub struct_lost : None ≡ counted_from 0 (read_all (read_type above) (behind line at)) → types above (λ ms. declare_struct block n ms) (behind line at) ≡ none
   unfolding ◌>>=◌
-  struct_lost q = rw (no_count _ p q)
+  struct_lost p = rw (no_count _ p)
 
-  pub struct_other : {k : ℕ} → r ≡ count.Of k → (n ≡ k → ⊥) → types above (λ ms. declare_struct block n ms) (behind line at) ≡ none
+  pub struct_says : {k : ℕ} {r : code.Option SheetLine} → Some k ≡ counted_from 0 (read_all (read_type above) (behind line at)) → r ≡ then_some (eqb n k) (says.Declared (spv.Struct block) k at)
+      → Says above line r (types above (λ ms. declare_struct block n ms) (behind line at))
   unfolding ◌>>=◌
-  struct_other {k} q h = let c = counts (read_all (read_type above) (behind line at)) p q in rw (c.read, ne_eqb n (length c.all) (λ e. h (e ∙ c.count)))
+  struct_says {k} {r} p q = rw q (by (eqb n k) refl)
+    where
+      c : Counts (read_all (read_type above) (behind line at)) k
+      c = counts (read_all (read_type above) (behind line at)) p
 
-  pub struct_says : {k : ℕ} → r ≡ count.Of k → n ≡ k → Declares above line (spv.Struct block) k at (types above (λ ms. declare_struct block n ms) (behind line at))
-  unfolding ◌>>=◌
-  struct_says {k} q h =
-      let c = counts (read_all (read_type above) (behind line at)) p q in
-      record { members = c.all; read = c.read; count = c.count; told = struct_of block n (read_all (read_type above) (behind line at)) c.all c.read (h ∙ sym c.count) }
+      by : (t : Bool) → eqb n k ≡ t → Says above line (then_some t (says.Declared (spv.Struct block) k at)) (types above (λ ms. declare_struct block n ms) (behind line at))
+      by true e = record { members = c.all; read = c.read; count = c.count; told = struct_of block n (read_all (read_type above) (behind line at)) c.all c.read (eqb-true n k e ∙ sym c.count) }
+      by false e = rw (c.read, ne_eqb n (length c.all) (λ h. eqb-false n k e (h ∙ c.count)))
 
-module _ (line : List ℕ) (at : ℕ) {r : Count} (op : ChainOp) (ptr : ℕ) (p : r ≡ counted_from 0 (read_all read_index (behind line at))) where
-  pub chain_lost : r ≡ count.Misread → indices (λ is. some (Asked (Question.C op ptr is))) (behind line at) ≡ none
+module _ (line : List ℕ) (at : ℕ) (op : ChainOp) (ptr : ℕ) where
+  pub chain_lost : None ≡ counted_from 0 (read_all read_index (behind line at)) → indices (λ is. some (Asked (Question.C op ptr is))) (behind line at) ≡ none
   unfolding ◌>>=◌
-  chain_lost q = rw (no_count _ p q)
+  chain_lost p = rw (no_count _ p)
 
-  pub chain_says : {k : ℕ} → r ≡ count.Of k → Asks line (ask.C op ptr k) at (indices (λ is. some (Asked (Question.C op ptr is))) (behind line at))
+  pub chain_says : {k : ℕ} → Some k ≡ counted_from 0 (read_all read_index (behind line at)) → Asks line (ask.C op ptr k) at (indices (λ is. some (Asked (Question.C op ptr is))) (behind line at))
   unfolding ◌>>=◌
-  chain_says {k} q =
-      let c = counts (read_all read_index (behind line at)) p q in
+  chain_says {k} p =
+      let c = counts (read_all read_index (behind line at)) p in
       record { indices = c.all; read = c.read; count = c.count; told = chain_of op ptr (read_all read_index (behind line at)) c.all c.read }
 
 -- ---- written
@@ -191,15 +222,18 @@ module _ {A : Type 0} {word : A → List ℕ} {read : List ℕ → Option A} {li
       size = ap length q ∙ length-sets list k (word a) ∙ w.size;
     }
 
-    pub filled_lost : Lost read line e → e < length line → (xs : List A) → read_all read (behind line at) ≡ some xs → ⊥
-    filled_lost l h xs q = no_some (sym (w.left ∙ ap (behind_these w.done) (all_lost l h)) ∙ q)
-
-    pub filled_all : length line ≤ e → (xs : List A) → read_all read (behind line at) ≡ some xs → list ≡ sets list₀ first (words_of word xs)
-    filled_all h xs q =
-        let s : w.done ++ [] ≡ xs = some_is (sym (w.left ∙ ap (behind_these w.done) (all_ended read line e h)) ∙ q) in
-        let t : w.done ≡ xs = sym (append-nil w.done) ∙ s in
-        rw (← t) w.stored
+    pub filled_end : Lost read line e → (xs : List A) → read_all read (behind line at) ≡ some xs → list ≡ sets list₀ first (words_of word xs)
+    filled_end l xs q = by (leb (length line) e) refl
+      where
+        by : (t : Bool) → leb (length line) e ≡ t → list ≡ sets list₀ first (words_of word xs)
+        by true h =
+            let s : w.done ++ [] ≡ xs = some_is (sym (w.left ∙ ap (behind_these w.done) (all_ended read line e (leb-true (length line) e h))) ∙ q) in
+            let t : w.done ≡ xs = sym (append-nil w.done) ∙ s in
+            rw (← t) w.stored
+        by false h = absurd (no_some (sym (w.left ∙ ap (behind_these w.done) (all_lost l (leb-false (length line) e h))) ∙ q))
 
 pub index_words_lem : (is : List Index) → words_of encode_index is ≡ index_words is
 index_words_lem [] = refl
 index_words_lem (i ∷ is) = ap (λ (x : List ℕ). encode_index i ++ x) (index_words_lem is)
+
+pub ruleset in_turn = (got, lost, got_both, lost_both, setting_ends, decoration_ends, type_ends, question_ends, struct_lost, struct_says, chain_lost, chain_says)

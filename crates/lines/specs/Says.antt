@@ -1,5 +1,6 @@
 -- What the code says of a line, and what that means: a line of the grammar, where a struct's members and a chain's indices are told by where they stand.
-use Rattle.std.specs.Prelude.{ℕ, ◌+◌, ◌≡◌, List, [], ◌∷◌, ◌++◌, length}
+use Rattle.std.specs.Prelude.{ℕ, ◌+◌, ◌≡◌, List, [], ◌∷◌, ◌++◌, length, Some, None}
+use Rattle.std.specs.Prelude as code
 use Prim.Native.String.{String}
 use Rattle.std.proofs.Math.Option.{Option, none, some}
 use Rattle.std.proofs.lemmas.List.Edits.{sets}
@@ -15,8 +16,6 @@ use Rattle.lines.specs.declared.Ask.{Ask}
 use Rattle.lines.specs.declared.Ask.TheVariants as ask
 use Rattle.lines.specs.declared.SheetLine.{SheetLine}
 use Rattle.lines.specs.declared.SheetLine.TheVariants as says
-use Rattle.lines.specs.declared.Count.{Count}
-use Rattle.lines.specs.declared.Count.TheVariants as count
 
 -- ---- questions
 
@@ -54,23 +53,23 @@ pub record Asks (line : List ℕ) (a : Ask) (at : ℕ) (o : Option Line) : Type 
   pub told : o ≡ some (Asked (question_of a indices))
 
 -- the answer for a line says what the grammar does, below `above` types
-abbrev pub Says : (above : ℕ) → List ℕ → SheetLine → Option Line → Type 0
-Says above line (says.Setting g) o = o ≡ some (Setting g)
-Says above line (says.Declared t n at) o = Declares above line t n at o
-Says above line (says.Decorated d) o = o ≡ some (Decorated d)
-Says above line (says.Asked a at) o = Asks line a at o
-Says above line says.Misread o = o ≡ none
+abbrev pub Says : (above : ℕ) → List ℕ → code.Option SheetLine → Option Line → Type 0
+Says above line (Some (says.Setting g)) o = o ≡ some (Setting g)
+Says above line (Some (says.Declared t n at)) o = Declares above line t n at o
+Says above line (Some (says.Decorated d)) o = o ≡ some (Decorated d)
+Says above line (Some (says.Asked a at)) o = Asks line a at o
+Says above line None o = o ≡ none
 
 -- the same of the form that a first field picks, for the fields behind it
-abbrev pub SaysAs : (above : ℕ) → String → List ℕ → ℕ → SheetLine → Type 0
+abbrev pub SaysAs : (above : ℕ) → String → List ℕ → ℕ → code.Option SheetLine → Type 0
 SaysAs above tag line e r = Says above line r (form_of (grammar above) (bytes tag) (behind line e))
 
 -- ---- all fields that are left
 
 -- n fields, and those that are read
-unfoldable pub counted_from : {A : Type 0} → ℕ → Option (List A) → Count
-counted_from n none = count.Misread
-counted_from n (some read) = count.Of (n + length read)
+unfoldable pub counted_from : {A : Type 0} → ℕ → Option (List A) → code.Option ℕ
+counted_from n none = None
+counted_from n (some read) = Some (n + length read)
 
 -- the words of indices
 abbrev pub index_words : List Index → List ℕ

@@ -1,17 +1,19 @@
 // What a line of a sheet says.
-#![tactic(auto)]
+#![tactic(auto, using(crate::proofs::Left::in_turn), unfolding(sheet::specs::Grammar::grammar))]
 
-ghost use Rattle.std.specs.Prelude.{◌≡◌, List, [], ℕ, ◌+◌, set};
-ghost use Rattle.std.proofs.Math.Option.{some};
+ghost use Rattle.std.specs.Prelude.{◌≡◌, List, [], ℕ, ◌+◌, set, Option};
+ghost use Rattle.std.proofs.Math.Option as math;
 ghost use Rattle.std.proofs.lemmas.List.Edits.{sets};
 ghost use Rattle.sheet.specs.Fields.{read_type, read_index, read_all, end};
 ghost use Rattle.sheet.specs.Grammar.{Asked, declare, read_line};
+ghost use Rattle.fields.specs.declared.Field.{Field};
 ghost use Rattle.fields.specs.Pieces.{behind};
+ghost use Rattle.fields.specs.Took.{Took};
 ghost use Rattle.lines.specs.Says.{count_of, question_of, Says, SaysAs, counted_from, Stored};
 
-use fields::{DecorationAt, FlagAt, IndexAt, LengthAt, NumberAt, OpAt, StrideAt};
+use fields::{Field, ReadField};
 use shapes::LayoutConfig;
-use spirv::{ChainOp, MemberDecoration, SpvType};
+use spirv::{ChainOp, Index, Length, MemberDecoration, SpvType, Stride};
 
 // A question, by its letter. A chain's indices stand behind it: this many.
 #[derive(Clone, Copy)]
@@ -38,326 +40,264 @@ pub enum SheetLine {
         ask: Ask,
         at: usize,
     },
-    Misread,
-}
-
-// How many fields there are, if all are of their kind.
-#[derive(Clone, Copy)]
-pub enum Count {
-    Of(usize),
-    Misread,
 }
 
 // ---- all fields that are left
 
-// The types above that the fields behind the one that ends at `at` name.
-fn count_types(line: &[u8], at: usize, above: u32) -> Count
-    ensures { result ≡ counted_from 0 (read_all (read_type above) (behind line.now at)) }
+// How many fields there are behind the one that ends at `at`, if `next` takes them all.
+fn count<T: Copy, F: Fn(usize) -> Option<Field<T>>>(
+    line: &[u8],
+    at: usize,
+    next: F,
+) -> Option<usize>
+    ghost read: { List ℕ → math.Option T }
+    requires callable { F.IsAlwaysCallable next }
+    requires takes { (e : ℕ) (r : Option (Field T)) → F.post next e r → Took read line.now e r }
+    ensures { result ≡ counted_from 0 (read_all read (behind line.now at)) }
 {
-    let mut e = at;
-    let mut n: usize = 0;
-    while e < line.len() {
-        let NumberAt::Field(_, d) = fields::type_at(line, e, above) else {
-            return Count::Misread;
-        };
-        e = d;
+    let mut end = at;
+    let mut n = 0;
+    while end < line.len() {
+        end = next(end)?.end;
         n += 1;
     }
-    Count::Of(n)
-}
-
-fn count_indices(line: &[u8], at: usize) -> Count
-    ensures { result ≡ counted_from 0 (read_all read_index (behind line.now at)) }
-{
-    let mut e = at;
-    let mut n: usize = 0;
-    while e < line.len() {
-        let IndexAt::Field(_, d) = fields::index_at(line, e) else {
-            return Count::Misread;
-        };
-        e = d;
-        n += 1;
-    }
-    Count::Of(n)
+    Some(n)
 }
 
 // ---- the lines, behind their first field, which ends at e
 
 // A type that has no further field.
-fn declared(line: &[u8], e: usize, ty: SpvType) -> SheetLine
+fn declared(line: &[u8], e: usize, ty: SpvType) -> Option<SheetLine>
     ensures { (above : ℕ) → Says above line.now result (end (declare ty) (behind line.now e)) }
 {
-    if e < line.len() {
-        return SheetLine::Misread;
-    }
-    SheetLine::Declared {
+    (line.len() <= e).then_some(SheetLine::Declared {
         ty,
         count: 0,
         at: e,
-    }
-}
-
-// A question that has no further field.
-fn asked(line: &[u8], e: usize, ask: Ask) -> SheetLine
-    requires { count_of ask ≡ 0 }
-    ensures { (above : ℕ) → Says above line.now result (end (Asked (question_of ask [])) (behind line.now e)) }
-{
-    if e < line.len() {
-        return SheetLine::Misread;
-    }
-    SheetLine::Asked { ask, at: e }
-}
-
-// The setting, on line 1.
-fn setting_line(line: &[u8], e: usize, above: u32) -> SheetLine
-    ensures { SaysAs above "G" line.now e result }
-{
-    let FlagAt::Field(ignore, e1) = fields::flag_at(line, e) else {
-        return SheetLine::Misread;
-    };
-    let NumberAt::Field(min, e2) = fields::number_at(line, e1) else {
-        return SheetLine::Misread;
-    };
-    let NumberAt::Field(bsize, e3) = fields::number_at(line, e2) else {
-        return SheetLine::Misread;
-    };
-    let NumberAt::Field(balign, e4) = fields::number_at(line, e3) else {
-        return SheetLine::Misread;
-    };
-    let NumberAt::Field(psize, e5) = fields::number_at(line, e4) else {
-        return SheetLine::Misread;
-    };
-    let NumberAt::Field(palign, e6) = fields::number_at(line, e5) else {
-        return SheetLine::Misread;
-    };
-    if e6 < line.len() {
-        return SheetLine::Misread;
-    }
-    SheetLine::Setting(LayoutConfig {
-        ignore_legacy_align: ignore,
-        min_aggregate_legacy_align: min,
-        abstract_bool_size: bsize,
-        abstract_bool_align: balign,
-        logical_ptr_size: psize,
-        logical_ptr_align: palign,
     })
 }
 
+// A question that has no further field.
+fn asked(line: &[u8], e: usize, ask: Ask) -> Option<SheetLine>
+    requires { count_of ask ≡ 0 }
+    ensures { (above : ℕ) → Says above line.now result (end (Asked (question_of ask [])) (behind line.now e)) }
+{
+    (line.len() <= e).then_some(SheetLine::Asked { ask, at: e })
+}
+
+// The setting, on line 1.
+fn setting_line(line: &[u8], e: usize, above: u32) -> Option<SheetLine>
+    ensures { SaysAs above "G" line.now e result }
+{
+    let ignore = bool::next(line, e)?;
+    let min = u32::next(line, ignore.end)?;
+    let bsize = u32::next(line, min.end)?;
+    let balign = u32::next(line, bsize.end)?;
+    let psize = u32::next(line, balign.end)?;
+    let palign = u32::next(line, psize.end)?;
+    (line.len() <= palign.end).then_some(SheetLine::Setting(LayoutConfig {
+        ignore_legacy_align: ignore.value,
+        min_aggregate_legacy_align: min.value,
+        abstract_bool_size: bsize.value,
+        abstract_bool_align: balign.value,
+        logical_ptr_size: psize.value,
+        logical_ptr_align: palign.value,
+    }))
+}
+
 // An integer type.
-fn int_line(line: &[u8], e: usize, above: u32) -> SheetLine
+fn int_line(line: &[u8], e: usize, above: u32) -> Option<SheetLine>
     ensures { SaysAs above "I" line.now e result }
 {
-    let NumberAt::Field(width, e1) = fields::number_at(line, e) else {
-        return SheetLine::Misread;
-    };
-    declared(line, e1, SpvType::Int { width })
+    let width = u32::next(line, e)?;
+    declared(line, width.end, SpvType::Int { width: width.value })
 }
 
 // A float type.
-fn float_line(line: &[u8], e: usize, above: u32) -> SheetLine
+fn float_line(line: &[u8], e: usize, above: u32) -> Option<SheetLine>
     ensures { SaysAs above "F" line.now e result }
 {
-    let NumberAt::Field(width, e1) = fields::number_at(line, e) else {
-        return SheetLine::Misread;
-    };
-    declared(line, e1, SpvType::Float { width })
+    let width = u32::next(line, e)?;
+    declared(line, width.end, SpvType::Float { width: width.value })
 }
 
 // A vector type.
-fn vector_line(line: &[u8], e: usize, above: u32) -> SheetLine
+fn vector_line(line: &[u8], e: usize, above: u32) -> Option<SheetLine>
     ensures { SaysAs above "V" line.now e result }
 {
-    let NumberAt::Field(elem, e1) = fields::type_at(line, e, above) else {
-        return SheetLine::Misread;
-    };
-    let NumberAt::Field(len, e2) = fields::number_at(line, e1) else {
-        return SheetLine::Misread;
-    };
-    declared(line, e2, SpvType::Vector { elem, len })
+    let elem = fields::type_at(line, e, above)?;
+    let len = u32::next(line, elem.end)?;
+    declared(
+        line,
+        len.end,
+        SpvType::Vector {
+            elem: elem.value,
+            len: len.value,
+        },
+    )
 }
 
 // A matrix type.
-fn matrix_line(line: &[u8], e: usize, above: u32) -> SheetLine
+fn matrix_line(line: &[u8], e: usize, above: u32) -> Option<SheetLine>
     ensures { SaysAs above "M" line.now e result }
 {
-    let NumberAt::Field(column, e1) = fields::type_at(line, e, above) else {
-        return SheetLine::Misread;
-    };
-    let NumberAt::Field(len, e2) = fields::number_at(line, e1) else {
-        return SheetLine::Misread;
-    };
-    declared(line, e2, SpvType::Matrix { column, len })
+    let column = fields::type_at(line, e, above)?;
+    let len = u32::next(line, column.end)?;
+    declared(
+        line,
+        len.end,
+        SpvType::Matrix {
+            column: column.value,
+            len: len.value,
+        },
+    )
 }
 
 // An array type.
-fn array_line(line: &[u8], e: usize, above: u32) -> SheetLine
+fn array_line(line: &[u8], e: usize, above: u32) -> Option<SheetLine>
     ensures { SaysAs above "A" line.now e result }
 {
-    let NumberAt::Field(elem, e1) = fields::type_at(line, e, above) else {
-        return SheetLine::Misread;
-    };
-    let LengthAt::Field(len, e2) = fields::length_at(line, e1) else {
-        return SheetLine::Misread;
-    };
-    let StrideAt::Field(stride, e3) = fields::stride_at(line, e2) else {
-        return SheetLine::Misread;
-    };
-    declared(line, e3, SpvType::Array { elem, len, stride })
+    let elem = fields::type_at(line, e, above)?;
+    let len = Length::next(line, elem.end)?;
+    let stride = Stride::next(line, len.end)?;
+    declared(
+        line,
+        stride.end,
+        SpvType::Array {
+            elem: elem.value,
+            len: len.value,
+            stride: stride.value,
+        },
+    )
 }
 
 // An array type without length.
-fn runtime_line(line: &[u8], e: usize, above: u32) -> SheetLine
+fn runtime_line(line: &[u8], e: usize, above: u32) -> Option<SheetLine>
     ensures { SaysAs above "R" line.now e result }
 {
-    let NumberAt::Field(elem, e1) = fields::type_at(line, e, above) else {
-        return SheetLine::Misread;
-    };
-    let StrideAt::Field(stride, e2) = fields::stride_at(line, e1) else {
-        return SheetLine::Misread;
-    };
-    declared(line, e2, SpvType::RuntimeArray { elem, stride })
+    let elem = fields::type_at(line, e, above)?;
+    let stride = Stride::next(line, elem.end)?;
+    declared(
+        line,
+        stride.end,
+        SpvType::RuntimeArray {
+            elem: elem.value,
+            stride: stride.value,
+        },
+    )
 }
 
 // A pointer type.
-fn pointer_line(line: &[u8], e: usize, above: u32) -> SheetLine
+fn pointer_line(line: &[u8], e: usize, above: u32) -> Option<SheetLine>
     ensures { SaysAs above "P" line.now e result }
 {
-    let NumberAt::Field(class, e1) = fields::number_at(line, e) else {
-        return SheetLine::Misread;
-    };
-    let NumberAt::Field(pointee, e2) = fields::type_at(line, e1, above) else {
-        return SheetLine::Misread;
-    };
-    declared(line, e2, SpvType::Pointer { class, pointee })
+    let class = u32::next(line, e)?;
+    let pointee = fields::type_at(line, class.end, above)?;
+    declared(
+        line,
+        pointee.end,
+        SpvType::Pointer {
+            class: class.value,
+            pointee: pointee.value,
+        },
+    )
 }
 
 // The layout of a type.
-fn t_line(line: &[u8], e: usize, above: u32) -> SheetLine
+fn t_line(line: &[u8], e: usize, above: u32) -> Option<SheetLine>
     ensures { SaysAs above "T" line.now e result }
 {
-    let NumberAt::Field(t, e1) = fields::type_at(line, e, above) else {
-        return SheetLine::Misread;
-    };
-    asked(line, e1, Ask::T(t))
+    let t = fields::type_at(line, e, above)?;
+    asked(line, t.end, Ask::T(t.value))
 }
 
 // Whether two types are laid out the same.
-fn e_line(line: &[u8], e: usize, above: u32) -> SheetLine
+fn e_line(line: &[u8], e: usize, above: u32) -> Option<SheetLine>
     ensures { SaysAs above "E" line.now e result }
 {
-    let NumberAt::Field(a, e1) = fields::type_at(line, e, above) else {
-        return SheetLine::Misread;
-    };
-    let NumberAt::Field(b, e2) = fields::type_at(line, e1, above) else {
-        return SheetLine::Misread;
-    };
-    asked(line, e2, Ask::E(a, b))
+    let a = fields::type_at(line, e, above)?;
+    let b = fields::type_at(line, a.end, above)?;
+    asked(line, b.end, Ask::E(a.value, b.value))
 }
 
 // The components that hold a range.
-fn q_line(line: &[u8], e: usize, above: u32) -> SheetLine
+fn q_line(line: &[u8], e: usize, above: u32) -> Option<SheetLine>
     ensures { SaysAs above "Q" line.now e result }
 {
-    let NumberAt::Field(t, e1) = fields::type_at(line, e, above) else {
-        return SheetLine::Misread;
-    };
-    let NumberAt::Field(start, e2) = fields::number_at(line, e1) else {
-        return SheetLine::Misread;
-    };
-    let NumberAt::Field(end, e3) = fields::number_at(line, e2) else {
-        return SheetLine::Misread;
-    };
-    asked(line, e3, Ask::Q(t, start, end))
+    let t = fields::type_at(line, e, above)?;
+    let start = u32::next(line, t.end)?;
+    let end = u32::next(line, start.end)?;
+    asked(line, end.end, Ask::Q(t.value, start.value, end.value))
 }
 
 // The length of a runtime array.
-fn l_line(line: &[u8], e: usize, above: u32) -> SheetLine
+fn l_line(line: &[u8], e: usize, above: u32) -> Option<SheetLine>
     ensures { SaysAs above "L" line.now e result }
 {
-    let NumberAt::Field(ptr, e1) = fields::type_at(line, e, above) else {
-        return SheetLine::Misread;
-    };
-    let NumberAt::Field(member, e2) = fields::number_at(line, e1) else {
-        return SheetLine::Misread;
-    };
-    asked(line, e2, Ask::L(ptr, member))
+    let ptr = fields::type_at(line, e, above)?;
+    let member = u32::next(line, ptr.end)?;
+    asked(line, member.end, Ask::L(ptr.value, member.value))
 }
 
 // A local variable.
-fn x_line(line: &[u8], e: usize, above: u32) -> SheetLine
+fn x_line(line: &[u8], e: usize, above: u32) -> Option<SheetLine>
     ensures { SaysAs above "X" line.now e result }
 {
-    let NumberAt::Field(ptr, e1) = fields::type_at(line, e, above) else {
-        return SheetLine::Misread;
-    };
-    asked(line, e1, Ask::X(ptr))
+    let ptr = fields::type_at(line, e, above)?;
+    asked(line, ptr.end, Ask::X(ptr.value))
 }
 
 // A struct type, of as many members as it says.
-fn struct_line(line: &[u8], e: usize, above: u32) -> SheetLine
+fn struct_line(line: &[u8], e: usize, above: u32) -> Option<SheetLine>
     ensures { SaysAs above "S" line.now e result }
 {
-    let FlagAt::Field(block, e1) = fields::flag_at(line, e) else {
-        return SheetLine::Misread;
-    };
-    let NumberAt::Field(n, e2) = fields::number_at(line, e1) else {
-        return SheetLine::Misread;
-    };
-    let Count::Of(count) = count_types(line, e2, above) else {
-        return SheetLine::Misread;
-    };
-    if n as usize != count {
-        return SheetLine::Misread;
-    }
-    SheetLine::Declared {
-        ty: SpvType::Struct { block },
+    let block = bool::next(line, e)?;
+    let n = u32::next(line, block.end)?;
+    let count = count(line, n.end, |e| fields::type_at(line, e, above))?;
+    (n.value as usize == count).then_some(SheetLine::Declared {
+        ty: SpvType::Struct { block: block.value },
         count,
-        at: e2,
-    }
+        at: n.end,
+    })
 }
 
 // A decoration of the last struct.
-fn decoration_line(line: &[u8], e: usize, above: u32) -> SheetLine
+fn decoration_line(line: &[u8], e: usize, above: u32) -> Option<SheetLine>
     ensures { SaysAs above "D" line.now e result }
 {
-    let NumberAt::Field(member, e1) = fields::number_at(line, e) else {
-        return SheetLine::Misread;
-    };
-    let DecorationAt::Field(decoration, e2) = fields::decoration_at(line, e1) else {
-        return SheetLine::Misread;
-    };
-    if e2 < line.len() {
-        return SheetLine::Misread;
-    }
-    SheetLine::Decorated(MemberDecoration { member, decoration })
+    let member = u32::next(line, e)?;
+    let decoration = fields::decoration_at(line, member.end)?;
+    (line.len() <= decoration.end).then_some(SheetLine::Decorated(MemberDecoration {
+        member: member.value,
+        decoration: decoration.value,
+    }))
 }
 
 // A chain with its indices.
-fn c_line(line: &[u8], e: usize, above: u32) -> SheetLine
+fn c_line(line: &[u8], e: usize, above: u32) -> Option<SheetLine>
     ensures { SaysAs above "C" line.now e result }
 {
-    let OpAt::Field(op, e1) = fields::op_at(line, e) else {
-        return SheetLine::Misread;
-    };
-    let NumberAt::Field(ptr, e2) = fields::type_at(line, e1, above) else {
-        return SheetLine::Misread;
-    };
-    let Count::Of(count) = count_indices(line, e2) else {
-        return SheetLine::Misread;
-    };
-    SheetLine::Asked {
-        ask: Ask::C { op, ptr, count },
-        at: e2,
-    }
+    let op = ChainOp::next(line, e)?;
+    let ptr = fields::type_at(line, op.end, above)?;
+    let count = count(line, ptr.end, |e| Index::next(line, e))?;
+    Some(SheetLine::Asked {
+        ask: Ask::C {
+            op: op.value,
+            ptr: ptr.value,
+            count,
+        },
+        at: ptr.end,
+    })
 }
 
 // What a line says below `above` types, by its first field.
-pub fn read_line(line: &[u8], above: u32) -> SheetLine
+#[tactic(auto, using(crate::proofs::First::by_letter), unfolding(sheet::specs::Grammar::grammar))]
+pub fn read_line(line: &[u8], above: u32) -> Option<SheetLine>
     ensures { Says above line.now result (read_line above line.now) }
 {
     let e = fields::piece_end(line, 0, b',');
     if e != 1 {
-        return SheetLine::Misread;
+        return None;
     }
     match line[0] {
         b'G' => setting_line(line, e, above),
@@ -379,7 +319,7 @@ pub fn read_line(line: &[u8], above: u32) -> SheetLine
         b'C' => c_line(line, e, above),
         b'L' => l_line(line, e, above),
         b'X' => x_line(line, e, above),
-        _ => SheetLine::Misread,
+        _ => None,
     }
 }
 
@@ -389,44 +329,37 @@ pub fn read_line(line: &[u8], above: u32) -> SheetLine
 pub fn put_at(list: &mut [u32], first: usize, n: usize, w: u32)
     ensures { list.new ≡ set list.old (first + n) w }
 {
-    if list.len() <= first {
+    let Some(i) = first.checked_add(n) else {
         return;
+    };
+    if i < list.len() {
+        list[i] = w;
     }
-    if list.len() - first <= n {
-        return;
-    }
-    list[first + n] = w;
 }
 
 // The members that a line names behind index `at`, from `first` on.
 pub fn put_members(line: &[u8], at: usize, above: u32, list: &mut [u32], first: usize)
-    ensures { (ms : List ℕ) → read_all (read_type above) (behind line.now at) ≡ some ms → list.new ≡ sets list.old first ms }
+    ensures { (ms : List ℕ) → read_all (read_type above) (behind line.now at) ≡ math.some ms → list.new ≡ sets list.old first ms }
 {
-    let mut e = at;
-    let mut n: usize = 0;
-    while e < line.len() {
-        let NumberAt::Field(m, d) = fields::type_at(line, e, above) else {
-            return;
-        };
-        put_at(list, first, n, m);
-        e = d;
+    let mut end = at;
+    let mut n = 0;
+    while let Some(f) = fields::type_at(line, end, above) {
+        put_at(list, first, n, f.value);
+        end = f.end;
         n += 1;
     }
 }
 
-// The indices of a chain behind index `at`, two words each.
+// The indices of a chain behind index `at`, two words each. One function for members too would take a closure that reads and one for the words, and is longer.
 pub fn put_indices(line: &[u8], at: usize, list: &mut [u32])
     ensures { Stored (read_all read_index (behind line.now at)) list.old list.new }
 {
-    let mut e = at;
-    let mut n: usize = 0;
-    while e < line.len() {
-        let IndexAt::Field(x, d) = fields::index_at(line, e) else {
-            return;
-        };
-        let words = spirv::encode_index(x);
+    let mut end = at;
+    let mut n = 0;
+    while let Some(f) = Index::next(line, end) {
+        let words = spirv::encode_index(f.value);
         spirv::put_words(list, n, &words);
-        e = d;
+        end = f.end;
         n += 2;
     }
 }

@@ -1,13 +1,11 @@
--- `lines::put_members` meets its contract. The loop's invariant: the members up to the field that ends at e are written.
-use Prim.Native.Nat.{ℕ, ◌-◌, ◌≤◌}
-use mathlib.Core.List.{◌∷◌, []}
-use lib.ListN.{length}
+-- `lines::put_members`. The loop's invariant: what the fields up to the one that ends at `end` name is written.
+use Rattle.std.proofs.Common.{ℕ, ◌-◌, ◌≤◌, ◌∷◌, [], length}
 use Rattle.sheet.specs.Fields.{read_type}
 use Rattle.lines.proofs.Left.{Filled}
 use Rattle.lines.proofs.put_members.Given as goal
 
-abbrev pub invariant-loop-e : goal.invariant-loop-e
-invariant-loop-e l = (l.n ≤ l.e) × Filled (λ (m : ℕ). m ∷ []) (read_type l.above) l.line l.initial.list l.first l.at l.n l.e l.list
+abbrev pub invariant-loop-f : goal.invariant-loop-f
+invariant-loop-f l = (l.n ≤ l.end) × Filled (λ (m : ℕ). m ∷ []) (read_type l.above) l.line l.initial.list l.first l.at l.n l.end l.list
 
-abbrev pub decreases-loop-e : goal.decreases-loop-e
-decreases-loop-e l = length l.line - l.e
+abbrev pub decreases-loop-f : goal.decreases-loop-f
+decreases-loop-f l = length l.line - l.end
