@@ -19,7 +19,7 @@ use Rattle.steps.specs.declared.StepWords.{StepWords}
 use Rattle.steps.specs.Lists.{steps_in, column, offsets_fit}
 use Rattle.steps.specs.Stored.{StoredAt}
 use Rattle.steps.proofs.Back.{lists_read_back}
-use Rattle.moves.specs.declared.Walk.TheVariants.{Steps}
+use Rattle.std.specs.Prelude.{Ok}
 use Rattle.moves.specs.Written.{walk_of}
 use Rattle.chain.specs.Chains.{room_of}
 use Rattle.pointers.specs.OverTables.{chain_over}
@@ -56,11 +56,11 @@ read_again steps k b l m i k' b' l' m' i' fit room s =
 
 -- no chain of more indices is answered so
 pub few_indices : (room : ℕ) (cfg : LayoutConfig) (n : ℕ) (types layouts offsets members : List ℕ) (op : ChainOp) (ptr : ℕ) (chain : List ℕ) (count : ℕ)
-    → Steps count ≡ walk_of 0 (chain_over room cfg n types layouts offsets members op ptr chain) → length chain ≤ 510
+    → Ok count ≡ walk_of 0 (chain_over room cfg n types layouts offsets members op ptr chain) → length chain ≤ 510
 unfolding chain_over refuse◌unless◌ refuse◌when◌ ◌>>◌
 few_indices room cfg n types layouts offsets members op ptr chain count h = by (ltb ptr n) (ltb 510 (length chain)) _ refl h
   where
-    by : (a b : Bool) (r : Result (List QPtrOp)) → ltb 510 (length chain) ≡ b → Steps count ≡ walk_of 0 ((refuse misread unless a) >> ((refuse oversize when b) >> r)) → length chain ≤ 510
+    by : (a b : Bool) (r : Result (List QPtrOp)) → ltb 510 (length chain) ≡ b → Ok count ≡ walk_of 0 ((refuse misread unless a) >> ((refuse oversize when b) >> r)) → length chain ≤ 510
     by a false r e g = ltb-false 510 (length chain) e
     by true true r e g = absurd (let z : ◌≡◌ {A = ℕ} 0 1 = cc in omega arith)
     by false true r e g = absurd (let z : ◌≡◌ {A = ℕ} 0 1 = cc in omega arith)
@@ -72,11 +72,11 @@ pub record Counted (room : ℕ) (r : Result (List QPtrOp)) (count : ℕ) : Type 
   pub many : count ≡ length steps
   pub fits : length steps ≤ room
 
-pub counted : (room : ℕ) (r : Result (List QPtrOp)) (count : ℕ) → Steps count ≡ walk_of 0 (in_room room length r) → Counted room r count
+pub counted : (room : ℕ) (r : Result (List QPtrOp)) (count : ℕ) → Ok count ≡ walk_of 0 (in_room room length r) → Counted room r count
 unfolding in_room ◌>>=◌ ◌>>◌ refuse◌when◌
 counted room (refused e) count h = absurd (let z : ◌≡◌ {A = ℕ} 0 1 = cc in omega arith)
 counted room (ok steps) count h = by (ltb room (length steps)) refl h
   where
-    by : (b : Bool) → ltb room (length steps) ≡ b → Steps count ≡ walk_of 0 ((refuse short_list when b) >> ok steps) → Counted room (ok steps) count
+    by : (b : Bool) → ltb room (length steps) ≡ b → Ok count ≡ walk_of 0 ((refuse short_list when b) >> ok steps) → Counted room (ok steps) count
     by true e g = absurd (let z : ◌≡◌ {A = ℕ} 0 1 = cc in omega arith)
     by false e g = record { steps = steps; lowered = refl; result = rw e; many = let z : count ≡ 0 + length steps = cc in z ∙ omega arith; fits = ltb-false room (length steps) e }

@@ -11,14 +11,14 @@ ghost use Rattle.chain.specs.Chains.{room_of};
 ghost use Rattle.pointers.specs.OverTables.{pointee_at, start_by, chain_over};
 ghost use Rattle.lowering.specs.Starts.{Starts};
 
-use moves::Walk;
-use places::Found;
-use pointers::Pointee;
+use arith::refusal::Refusal;
+use places::Place;
 use shapes::LayoutConfig;
+use shapes::tables::Layouts;
 use spirv::ChainOp;
 
 // 67 and 70 start from an undecorated runtime array of the pointee.
-fn start_array(cfg: LayoutConfig, layouts: &[u32], n: u32, t: u32) -> Found
+fn start_array(cfg: LayoutConfig, layouts: &[u32], n: u32, t: u32) -> Result<Place, Refusal>
     ensures { Starts result (λ f. runtime_array_by cfg (λ u. answer_by f (answer_at layouts.now n u)) t) }
 {
     let a = shapes::rows::answer_at(layouts, n, t);
@@ -26,14 +26,20 @@ fn start_array(cfg: LayoutConfig, layouts: &[u32], n: u32, t: u32) -> Found
 }
 
 // 65 and 66 start from the pointee.
-fn start_place(cfg: LayoutConfig, layouts: &[u32], n: u32, op: ChainOp, t: u32) -> Found
+fn start_place(
+    cfg: LayoutConfig,
+    layouts: &[u32],
+    n: u32,
+    op: ChainOp,
+    t: u32,
+) -> Result<Place, Refusal>
     ensures { Starts result (λ f. start_layout cfg (λ u. answer_by f (answer_at layouts.now n u)) op t) }
 {
     match op {
-        ChainOp::AccessChain => places::place_at(layouts, n, t),
-        ChainOp::InBoundsAccessChain => places::place_at(layouts, n, t),
-        ChainOp::PtrAccessChain => start_array(cfg, layouts, n, t),
-        ChainOp::InBoundsPtrAccessChain => start_array(cfg, layouts, n, t),
+        ChainOp::AccessChain | ChainOp::InBoundsAccessChain => places::place_at(layouts, n, t),
+        ChainOp::PtrAccessChain | ChainOp::InBoundsPtrAccessChain => {
+            start_array(cfg, layouts, n, t)
+        }
     }
 }
 
@@ -45,13 +51,11 @@ fn start_at(
     layouts: &[u32],
     op: ChainOp,
     ptr: u32,
-) -> Found
+) -> Result<Place, Refusal>
     ensures { Starts result (λ f. start_by cfg (pointee_at types.now n) (λ u. answer_by f (answer_at layouts.now n u)) op ptr) }
 {
-    match pointers::pointee_at(types, n, ptr) {
-        Pointee::Refused(e) => Found::Refused(e),
-        Pointee::Type(t) => start_place(cfg, layouts, n, op, t),
-    }
+    let t = pointers::pointee_at(types, n, ptr)?;
+    start_place(cfg, layouts, n, op, t)
 }
 
 // The steps of a chain into the five lists, or the refusal and the lists as they were.
@@ -70,19 +74,21 @@ pub fn lower_access_chain(
     bounds: &mut [u32],
     marks: &mut [u32],
     indices: &mut [u32],
-) -> Walk
+) -> Result<usize, Refusal>
     ensures { Wrote 0 (chain_over (room_of kinds.old bytes.old bounds.old marks.old indices.old) cfg n types.now layouts.now offsets.now members.now op ptr chain.now) result kinds.old bytes.old bounds.old marks.old indices.old kinds.new bytes.new bounds.new marks.new indices.new }
 {
     if n <= ptr {
-        return Walk::Refused(1);
+        return Err(Refusal::MISREAD);
     }
     if 510 < chain.len() {
-        return Walk::Refused(2);
+        return Err(Refusal::OVERSIZE);
     }
-    match start_at(cfg, n, types, layouts, op, ptr) {
-        Found::Refused(e) => Walk::Refused(e),
-        Found::At(l) => chain::lower_from(
-            layouts, n, offsets, members, chain, l, kinds, bytes, bounds, marks, indices,
-        ),
-    }
+    let l = start_at(cfg, n, types, layouts, op, ptr)?;
+    let tables = Layouts {
+        rows: layouts,
+        count: n,
+        offsets,
+        members,
+    };
+    chain::lower_from(&tables, chain, l, kinds, bytes, bounds, marks, indices)
 }

@@ -1,4 +1,5 @@
 -- `lowering::lower_access_chain` meets its contract: 1 and 2 before all else, then the start, and the walk from it. Assumes nothing.
+use Rattle.std.proofs.Common.{rules, ◌≡◌, Err}
 use Rattle.chain.specs.Chains.{room_of}
 use Rattle.moves.proofs.Writes.{refused_wrote}
 use Rattle.lowering.proofs.Chains.{no_such, too_long, no_start, from_start}
@@ -12,11 +13,12 @@ pub returns-then-chain-gt510 : goal.returns-then-chain-gt510
 returns-then-chain-gt510 c = let a = c.args in
     refused_wrote _ _ _ _ _ _ _ _ (too_long _ a.cfg a.n a.types.now a.layouts.now a.offsets.now a.members.now a.op a.ptr a.chain.now c.if-n-ptr.false c.if-chain-gt510.true)
 
-pub returns-in-Refused : goal.returns-in-Refused
-returns-in-Refused c = let a = c.args in
-    refused_wrote _ _ _ _ _ _ _ _ (no_start _ a.cfg a.n a.types.now a.layouts.now a.offsets.now a.members.now a.op a.ptr a.chain.now c.if-n-ptr.false c.if-chain-gt510.false _ c.start_at.ensures _ c.in-Refused.is)
+pub returns-in_err-l : goal.returns-in_err-l
+returns-in_err-l c = let a = c.args in
+    let e : c.from_residual.result ≡ Err c.in_err-l.field-0.0 = search rules in
+    rw e (refused_wrote _ _ _ _ _ _ _ _ (no_start _ a.cfg a.n a.types.now a.layouts.now a.offsets.now a.members.now a.op a.ptr a.chain.now c.if-n-ptr.false c.if-chain-gt510.false _ c.start_at.ensures _ c.in_err-l.was))
 
-pub returns-in-At : goal.returns-in-At
-returns-in-At c = let a = c.args in
-    rw (from_start (room_of a.kinds.now a.bytes.now a.bounds.now a.marks.now a.indices.now) a.cfg a.n a.types.now a.layouts.now a.offsets.now a.members.now a.op a.ptr a.chain.now c.if-n-ptr.false c.if-chain-gt510.false _ c.start_at.ensures _ c.in-At.is)
+pub returns : goal.returns
+returns c = let a = c.args in
+    rw (from_start (room_of a.kinds.now a.bytes.now a.bounds.now a.marks.now a.indices.now) a.cfg a.n a.types.now a.layouts.now a.offsets.now a.members.now a.op a.ptr a.chain.now c.if-n-ptr.false c.if-chain-gt510.false _ c.start_at.ensures _ c.in_ok-l.was)
     c.lower_from.ensures
