@@ -164,10 +164,9 @@ impl Members<'_> {
         ensures { result ≡ in_code (mapped held_spot (step_of self.now.cfg (below_in self.now.layouts.now self.now.n) (drop i self.now.given.now) (extent_in x) (get_or self.now.types.now i 0))) }
     {
         let m = self.member_at(self.types[i])?;
-        if i < self.given.len() {
-            step_given(self.given[i], x, m)
-        } else {
-            step_in_turn(self.cfg, x, m)
+        match self.given.get(i) {
+            Some(offset) => step_given(*offset, x, m),
+            None => step_in_turn(self.cfg, x, m),
         }
     }
 
