@@ -13,59 +13,40 @@ ghost use Rattle.lowering.specs.Starts.{Starts};
 
 use arith::refusal::Refusal;
 use places::Place;
-use shapes::LayoutConfig;
-use shapes::tables::Layouts;
+use shapes::tables::Tables;
 use spirv::ChainOp;
 
 // 67 and 70 start from an undecorated runtime array of the pointee.
-fn start_array(cfg: LayoutConfig, layouts: &[u32], n: u32, t: u32) -> Result<Place, Refusal>
-    ensures { Starts result (λ f. runtime_array_by cfg (λ u. answer_by f (answer_at layouts.now n u)) t) }
+fn start_array(tables: &Tables<'_>, t: u32) -> Result<Place, Refusal>
+    ensures { Starts result (λ f. runtime_array_by tables.now.cfg (λ u. answer_by f (answer_at tables.now.layouts.rows.now tables.now.layouts.count u)) t) }
 {
-    let a = shapes::rows::answer_at(layouts, n, t);
-    places::found_of(rules::runtime_array(cfg, t, a))
+    let a = tables.layouts.answer_at(t);
+    places::found_of(rules::runtime_array(tables.cfg, t, a))
 }
 
 // 65 and 66 start from the pointee.
-fn start_place(
-    cfg: LayoutConfig,
-    layouts: &[u32],
-    n: u32,
-    op: ChainOp,
-    t: u32,
-) -> Result<Place, Refusal>
-    ensures { Starts result (λ f. start_layout cfg (λ u. answer_by f (answer_at layouts.now n u)) op t) }
+fn start_place(tables: &Tables<'_>, op: ChainOp, t: u32) -> Result<Place, Refusal>
+    ensures { Starts result (λ f. start_layout tables.now.cfg (λ u. answer_by f (answer_at tables.now.layouts.rows.now tables.now.layouts.count u)) op t) }
 {
     match op {
-        ChainOp::AccessChain | ChainOp::InBoundsAccessChain => places::place_at(layouts, n, t),
-        ChainOp::PtrAccessChain | ChainOp::InBoundsPtrAccessChain => {
-            start_array(cfg, layouts, n, t)
+        ChainOp::AccessChain | ChainOp::InBoundsAccessChain => {
+            places::place_at(tables.layouts.rows, tables.layouts.count, t)
         }
+        ChainOp::PtrAccessChain | ChainOp::InBoundsPtrAccessChain => start_array(tables, t),
     }
 }
 
 // What a chain starts from, by its pointer.
-fn start_at(
-    cfg: LayoutConfig,
-    n: u32,
-    types: &[u32],
-    layouts: &[u32],
-    op: ChainOp,
-    ptr: u32,
-) -> Result<Place, Refusal>
-    ensures { Starts result (λ f. start_by cfg (pointee_at types.now n) (λ u. answer_by f (answer_at layouts.now n u)) op ptr) }
+fn start_at(tables: &Tables<'_>, op: ChainOp, ptr: u32) -> Result<Place, Refusal>
+    ensures { Starts result (λ f. start_by tables.now.cfg (pointee_at tables.now.types.now tables.now.layouts.count) (λ u. answer_by f (answer_at tables.now.layouts.rows.now tables.now.layouts.count u)) op ptr) }
 {
-    let t = pointers::pointee_at(types, n, ptr)?;
-    start_place(cfg, layouts, n, op, t)
+    let t = pointers::pointee_at(tables.types, tables.layouts.count, ptr)?;
+    start_place(tables, op, t)
 }
 
 // The steps of a chain into the five lists, or the refusal and the lists as they were.
 pub fn lower_access_chain(
-    cfg: LayoutConfig,
-    n: u32,
-    types: &[u32],
-    layouts: &[u32],
-    offsets: &[u32],
-    members: &[u32],
+    tables: &Tables<'_>,
     op: ChainOp,
     ptr: u32,
     chain: &[u32],
@@ -75,20 +56,24 @@ pub fn lower_access_chain(
     marks: &mut [u32],
     indices: &mut [u32],
 ) -> Result<usize, Refusal>
-    ensures { Wrote 0 (chain_over (room_of kinds.old bytes.old bounds.old marks.old indices.old) cfg n types.now layouts.now offsets.now members.now op ptr chain.now) result kinds.old bytes.old bounds.old marks.old indices.old kinds.new bytes.new bounds.new marks.new indices.new }
+    ensures { Wrote 0 (chain_over (room_of kinds.old bytes.old bounds.old marks.old indices.old) tables.now.cfg tables.now.layouts.count tables.now.types.now tables.now.layouts.rows.now tables.now.layouts.offsets.now tables.now.layouts.members.now op ptr chain.now) result kinds.old bytes.old bounds.old marks.old indices.old kinds.new bytes.new bounds.new marks.new indices.new }
 {
+    let n = tables.layouts.count;
     if n <= ptr {
         return Err(Refusal::MISREAD);
     }
     if 510 < chain.len() {
         return Err(Refusal::OVERSIZE);
     }
-    let l = start_at(cfg, n, types, layouts, op, ptr)?;
-    let tables = Layouts {
-        rows: layouts,
-        count: n,
-        offsets,
-        members,
-    };
-    chain::lower_from(&tables, chain, l, kinds, bytes, bounds, marks, indices)
+    let l = start_at(tables, op, ptr)?;
+    chain::lower_from(
+        &tables.layouts,
+        chain,
+        l,
+        kinds,
+        bytes,
+        bounds,
+        marks,
+        indices,
+    )
 }

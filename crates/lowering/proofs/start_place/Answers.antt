@@ -9,7 +9,7 @@ pub returns-in-AccessChain : goal.returns-in-AccessChain
 unfolding start_layout
 returns-in-AccessChain c =
     let a = c.args in
-    record { answer = answer_at a.layouts.now a.n a.t; found = c.place_at.ensures; says = record { by = λ f. elim c.in-AccessChain.is [ inl e ↦ rw e refl | inr e ↦ rw e refl ] } }
+    record { answer = answer_at a.tables.now.layouts.rows.now a.tables.now.layouts.count a.t; found = c.place_at.ensures; says = record { by = λ f. elim c.in-AccessChain.is [ inl e ↦ rw e refl | inr e ↦ rw e refl ] } }
 
 pub returns-in-PtrAccessChain : goal.returns-in-PtrAccessChain
 unfolding start_layout
