@@ -16,7 +16,7 @@ use shapes::LayoutConfig;
 use spirv::{ChainOp, Index, Length, MemberDecoration, SpvType, Stride};
 
 // A question, by its letter. A chain's indices stand behind it: this many.
-#[derive(Clone, Copy)]
+#[derive(Clone, Copy, Debug, PartialEq, Eq, Hash)]
 pub enum Ask {
     T(u32),
     E(u32, u32),
@@ -27,7 +27,7 @@ pub enum Ask {
 }
 
 // What a line says. A struct's members and a chain's indices are the fields behind the one that ends at index `at`: this many.
-#[derive(Clone, Copy)]
+#[derive(Clone, Copy, Debug, PartialEq, Eq, Hash)]
 pub enum SheetLine {
     Setting(LayoutConfig),
     Declared {

@@ -31,8 +31,9 @@ use Rattle.lines.proofs.Indices.{question_count}
 use Rattle.tally.specs.declared.Place.{Place}
 use Rattle.tally.specs.declared.Place.TheVariants.{Closed, Open, After}
 use Rattle.tally.specs.declared.Tally.{Tally}
-use Rattle.tally.specs.declared.Step.TheVariants.{Next, Refused}
-use Rattle.tally.specs.Counts.{row_with, row_taking, row_by, read_in, is_open, placed, opened_by, declared_by, decorated_by, asked_by, judged, set_by, judged_first, start_tally}
+use Rattle.std.specs.Prelude as code
+use Rattle.std.specs.Prelude.{Some, None}
+use Rattle.tally.specs.Counts.{more, stop, row_with, row_taking, row_by, read_in, is_open, placed, opened_by, declared_by, decorated_by, asked_by, judged, set_by, judged_first, start_tally}
 use Rattle.tally.proofs.Decorated.{decorated, decorate_last_lem, rises_last, row_decorated}
 use Rattle.tally.proofs.Went.{OpenAt, Placed, Matches, Redone, Went, WentBy, never_next, never_refused, next_is, number_is}
 
@@ -76,13 +77,13 @@ module _ {s : Sheet} {previous : Line} {t : Tally} (m : Matches s previous t) wh
     }
 
     module _ (line : List ℕ) (at : ℕ) {o : Option Line} (r : read_all (read_type t.types) (behind line at) ≡ some members) (q : o ≡ some (Declared declaration)) where
-      type_went : {u : Tally} → declared_by t ty (length members) ≡ Next u → Went s previous t line (says.Declared ty (length members) at) o u
+      type_went : {u : Tally} → declared_by t ty (length members) ≡ more u → Went s previous t line (Some (says.Declared ty (length members) at)) o u
       unfolding declared_by
       type_went {u} e = go (ltb t.types max_types) (leb (t.members + length members) max_members) type_next e
         where
           go : (a b : Bool) → next_line s previous (Declared declaration) ≡ cond a (cond b (ok with_type) (refused oversize)) (refused oversize)
-              → cond a (cond b (Next record { setting = t.setting; types = t.types + 1; members = t.members + length members; place = opened_by ty t.members (length members) }) (Refused oversize)) (Refused oversize) ≡ Next u
-              → Went s previous t line (says.Declared ty (length members) at) o u
+              → cond a (cond b (more record { setting = t.setting; types = t.types + 1; members = t.members + length members; place = opened_by ty t.members (length members) }) (stop oversize)) (stop oversize) ≡ more u
+              → Went s previous t line (Some (says.Declared ty (length members) at)) o u
           go true true w e = record {
             said = Declared declaration;
             told = q;
@@ -94,12 +95,12 @@ module _ {s : Sheet} {previous : Line} {t : Tally} (m : Matches s previous t) wh
           go true false w e = absurd (never_next e)
           go false b w e = absurd (never_next e)
 
-      type_stops : {n : ℕ} → declared_by t ty (length members) ≡ Refused n → (formed o >>= next_line s previous) ≡ refused n
+      type_stops : {n : ℕ} → declared_by t ty (length members) ≡ stop n → (formed o >>= next_line s previous) ≡ refused n
       unfolding declared_by ◌>>=◌
       type_stops {n} e = rw q (go (ltb t.types max_types) (leb (t.members + length members) max_members) type_next e)
         where
           go : (a b : Bool) → next_line s previous (Declared declaration) ≡ cond a (cond b (ok with_type) (refused oversize)) (refused oversize)
-              → cond a (cond b (Next record { setting = t.setting; types = t.types + 1; members = t.members + length members; place = opened_by ty t.members (length members) }) (Refused oversize)) (Refused oversize) ≡ Refused n
+              → cond a (cond b (more record { setting = t.setting; types = t.types + 1; members = t.members + length members; place = opened_by ty t.members (length members) }) (stop oversize)) (stop oversize) ≡ stop n
               → next_line s previous (Declared declaration) ≡ refused n
           go true true w e = absurd (never_refused e)
           go true false w e = w ∙ ap refused (number_is e)
@@ -119,12 +120,12 @@ module _ {s : Sheet} {previous : Line} {t : Tally} (m : Matches s previous t) wh
         go true = refl
         go false = refl
 
-    ask_went : {u : Tally} → asked_by t (count_of a) ≡ Next u → Went s previous t line (says.Asked a at) o u
+    ask_went : {u : Tally} → asked_by t (count_of a) ≡ more u → Went s previous t line (Some (says.Asked a at)) o u
     unfolding asked_by
     ask_went {u} e = go (leb (count_of a) max_indices) ask_next e
       where
         go : (b : Bool) → next_line s previous (Asked (question_of a w.indices)) ≡ cond b (ok (with_question (question_of a w.indices))) (refused oversize)
-            → cond b (Next (placed t Closed)) (Refused oversize) ≡ Next u → Went s previous t line (says.Asked a at) o u
+            → cond b (more (placed t Closed)) (stop oversize) ≡ more u → Went s previous t line (Some (says.Asked a at)) o u
         go true n e = record {
           said = Asked (question_of a w.indices);
           told = w.told;
@@ -135,12 +136,12 @@ module _ {s : Sheet} {previous : Line} {t : Tally} (m : Matches s previous t) wh
         }
         go false n e = absurd (never_next e)
 
-    ask_stops : {n : ℕ} → asked_by t (count_of a) ≡ Refused n → (formed o >>= next_line s previous) ≡ refused n
+    ask_stops : {n : ℕ} → asked_by t (count_of a) ≡ stop n → (formed o >>= next_line s previous) ≡ refused n
     unfolding asked_by ◌>>=◌
     ask_stops {n} e = ap (λ (x : Option Line). formed x >>= next_line s previous) w.told ∙ go (leb (count_of a) max_indices) ask_next e
       where
         go : (b : Bool) → next_line s previous (Asked (question_of a w.indices)) ≡ cond b (ok (with_question (question_of a w.indices))) (refused oversize)
-            → cond b (Next (placed t Closed)) (Refused oversize) ≡ Refused n → next_line s previous (Asked (question_of a w.indices)) ≡ refused n
+            → cond b (more (placed t Closed)) (stop oversize) ≡ stop n → next_line s previous (Asked (question_of a w.indices)) ≡ refused n
         go true w e = absurd (never_refused e)
         go false w e = w ∙ ap refused (number_is e)
 
@@ -187,52 +188,52 @@ module _ {s : Sheet} {previous : Line} {t : Tally} (m : Matches s previous t) wh
       redone = record { above = a.above; last = a.last; was = a.split; now = refl; struct = a.struct; held = a.held }
 
     -- where the order lets it stand there
-    opened_went : {row : DeclRow} {follows : MemberDecoration → Bool} {u : Tally} (a : OpenAt s.types previous row follows) → follows d ≡ true → Next (placed t (After (row_by row d) d)) ≡ Next u
+    opened_went : {row : DeclRow} {follows : MemberDecoration → Bool} {u : Tally} (a : OpenAt s.types previous row follows) → follows d ≡ true → more (placed t (After (row_by row d) d)) ≡ more u
         → (sheet : Sheet) × (next_line s previous (Decorated d) ≡ ok sheet) × Matches sheet (Decorated d) u × Redone row d s.types sheet.types
     opened_went {row} {follows} {u} a f e = (with_decoration a, decoration_next a ∙ (rw f), rw (← next_is e) (decoration_matches a), redone a)
 
-    decoration_went : {u : Tally} (p : Place) → Placed s.types previous p → decorated_by t p d ≡ Next u → WentBy s previous p d u
+    decoration_went : {u : Tally} (p : Place) → Placed s.types previous p → decorated_by t p d ≡ more u → WentBy s previous p d u
     unfolding decorated_by
     decoration_went Closed a e = absurd (never_next e)
     decoration_went (Open row) a e = let w = opened_went a refl e in record { sheet = w.0; next = w.1; matches = w.2; grows = w.3 }
     decoration_went {u} (After row c) a e = go (before c d) refl e
       where
-        go : (b : Bool) → before c d ≡ b → cond b (Next (placed t (After (row_by row d) d))) (Refused misread) ≡ Next u → WentBy s previous (After row c) d u
+        go : (b : Bool) → before c d ≡ b → cond b (more (placed t (After (row_by row d) d))) (stop misread) ≡ more u → WentBy s previous (After row c) d u
         go true f e = let w = opened_went a f e in record { sheet = w.0; next = w.1; matches = w.2; grows = w.3 }
         go false f e = absurd (never_next e)
 
-    decoration_stops : {n : ℕ} (p : Place) → Placed s.types previous p → decorated_by t p d ≡ Refused n → next_line s previous (Decorated d) ≡ refused n
+    decoration_stops : {n : ℕ} (p : Place) → Placed s.types previous p → decorated_by t p d ≡ stop n → next_line s previous (Decorated d) ≡ refused n
     unfolding decorated_by
     decoration_stops Closed a e = closed_stops a ∙ ap refused (number_is e)
     decoration_stops (Open row) a e = absurd (never_refused e)
     decoration_stops {n} (After row c) a e = go (before c d) refl e
       where
-        go : (b : Bool) → before c d ≡ b → cond b (Next (placed t (After (row_by row d) d))) (Refused misread) ≡ Refused n → next_line s previous (Decorated d) ≡ refused n
+        go : (b : Bool) → before c d ≡ b → cond b (more (placed t (After (row_by row d) d))) (stop misread) ≡ stop n → next_line s previous (Decorated d) ≡ refused n
         go true f e = absurd (never_refused e)
         go false f e = decoration_next a ∙ (rw f) ∙ ap refused (number_is e)
 
   -- ---- any line
 
   module _ (line : List ℕ) (o : Option Line) where
-    pub next_line_lem : {u : Tally} (l : SheetLine) → Says t.types line l o → judged t l ≡ Next u → Went s previous t line l o u
+    pub next_line_lem : {u : Tally} (l : code.Option SheetLine) → Says t.types line l o → judged t l ≡ more u → Went s previous t line l o u
     unfolding judged
-    next_line_lem (says.Setting g) w e = absurd (never_next e)
-    next_line_lem {u} (says.Declared ty n at) w e =
-        subst (λ (k : ℕ). Went s previous t line (says.Declared ty k at) o u) w.count
+    next_line_lem (Some (says.Setting g)) w e = absurd (never_next e)
+    next_line_lem {u} (Some (says.Declared ty n at)) w e =
+        subst (λ (k : ℕ). Went s previous t line (Some (says.Declared ty k at)) o u) w.count
         (type_went ty w.members line at w.read w.told (ap (declared_by t ty) w.count ∙ e))
-    next_line_lem (says.Decorated d) w e =
+    next_line_lem (Some (says.Decorated d)) w e =
         let r = decoration_went d t.place m.place e in
         record { said = Decorated d; told = w; sheet = r.sheet; next = r.next; matches = r.matches; grows = r.grows }
-    next_line_lem (says.Asked a at) w e = ask_went w e
-    next_line_lem says.Misread w e = absurd (never_next e)
+    next_line_lem (Some (says.Asked a at)) w e = ask_went w e
+    next_line_lem None w e = absurd (never_next e)
 
-    pub line_stops : {n : ℕ} (l : SheetLine) → Says t.types line l o → judged t l ≡ Refused n → (formed o >>= next_line s previous) ≡ refused n
+    pub line_stops : {n : ℕ} (l : code.Option SheetLine) → Says t.types line l o → judged t l ≡ stop n → (formed o >>= next_line s previous) ≡ refused n
     unfolding judged ◌>>=◌ next_line
-    line_stops (says.Setting g) w e = rw w (ap refused (number_is e))
-    line_stops (says.Declared ty n at) w e = type_stops ty w.members line at w.read w.told (ap (declared_by t ty) w.count ∙ e)
-    line_stops (says.Decorated d) w e = rw w (decoration_stops d t.place m.place e)
-    line_stops (says.Asked a at) w e = ask_stops w e
-    line_stops says.Misread w e = rw w (ap refused (number_is e))
+    line_stops (Some (says.Setting g)) w e = rw w (ap refused (number_is e))
+    line_stops (Some (says.Declared ty n at)) w e = type_stops ty w.members line at w.read w.told (ap (declared_by t ty) w.count ∙ e)
+    line_stops (Some (says.Decorated d)) w e = rw w (decoration_stops d t.place m.place e)
+    line_stops (Some (says.Asked a at)) w e = ask_stops w e
+    line_stops None w e = rw w (ap refused (number_is e))
 
 -- ---- the bounds that the counts keep
 
@@ -251,47 +252,47 @@ row_reads row d = go (eqb row.refusal 0) d.decoration
     go false c = omega arith
 
 -- a line adds one offset at most
-pub reads_more : (t : Tally) (l : SheetLine) {u : Tally} → judged t l ≡ Next u → read_in u.place ≤ read_in t.place + 1
+pub reads_more : (t : Tally) (l : code.Option SheetLine) {u : Tally} → judged t l ≡ more u → read_in u.place ≤ read_in t.place + 1
 unfolding judged declared_by decorated_by asked_by opened_by
-reads_more t (says.Setting g) e = absurd (never_next e)
-reads_more t (says.Declared ty n at) {u} e = go (ltb t.types max_types) (leb (t.members + n) max_members) (is_struct ty) e
+reads_more t (Some (says.Setting g)) e = absurd (never_next e)
+reads_more t (Some (says.Declared ty n at)) {u} e = go (ltb t.types max_types) (leb (t.members + n) max_members) (is_struct ty) e
   where
     place : (c : Bool) → read_in (cond c (Open (struct_row ty t.members n 0 0)) Closed) ≤ 0
     place true = omega arith
     place false = omega arith
 
-    go : (a b c : Bool) → cond a (cond b (Next record { setting = t.setting; types = t.types + 1; members = t.members + n; place = cond c (Open (struct_row ty t.members n 0 0)) Closed }) (Refused oversize)) (Refused oversize) ≡ Next u
+    go : (a b c : Bool) → cond a (cond b (more record { setting = t.setting; types = t.types + 1; members = t.members + n; place = cond c (Open (struct_row ty t.members n 0 0)) Closed }) (stop oversize)) (stop oversize) ≡ more u
         → read_in u.place ≤ read_in t.place + 1
     go true true c e = rw (← next_is e) (omega (arith, place c))
     go true false c e = absurd (never_next e)
     go false b c e = absurd (never_next e)
-reads_more t (says.Decorated d) {u} e = go t.place e
+reads_more t (Some (says.Decorated d)) {u} e = go t.place e
   where
-    row_after : (row : DeclRow) → Next (placed t (After (row_by row d) d)) ≡ Next u → read_in u.place ≤ row.read + 1
+    row_after : (row : DeclRow) → more (placed t (After (row_by row d) d)) ≡ more u → read_in u.place ≤ row.read + 1
     row_after row e = rw (← next_is e) (row_reads row d)
 
-    go : (p : Place) → decorated_by t p d ≡ Next u → read_in u.place ≤ read_in p + 1
+    go : (p : Place) → decorated_by t p d ≡ more u → read_in u.place ≤ read_in p + 1
     go Closed e = absurd (never_next e)
     go (Open row) e = row_after row e
     go (After row c) e = inner (before c d) e
       where
-        inner : (b : Bool) → cond b (Next (placed t (After (row_by row d) d))) (Refused misread) ≡ Next u → read_in u.place ≤ row.read + 1
+        inner : (b : Bool) → cond b (more (placed t (After (row_by row d) d))) (stop misread) ≡ more u → read_in u.place ≤ row.read + 1
         inner true e = row_after row e
         inner false e = absurd (never_next e)
-reads_more t (says.Asked a at) {u} e = go (leb (count_of a) max_indices) e
+reads_more t (Some (says.Asked a at)) {u} e = go (leb (count_of a) max_indices) e
   where
-    go : (b : Bool) → cond b (Next (placed t Closed)) (Refused oversize) ≡ Next u → read_in u.place ≤ read_in t.place + 1
+    go : (b : Bool) → cond b (more (placed t Closed)) (stop oversize) ≡ more u → read_in u.place ≤ read_in t.place + 1
     go true e = rw (← next_is e) (omega arith)
     go false e = absurd (never_next e)
-reads_more t says.Misread e = absurd (never_next e)
+reads_more t None e = absurd (never_next e)
 
 -- a type that is not refused has few members
-pub few_declared : (t : Tally) (ty : SpvType) (n at : ℕ) {u : Tally} → judged t (says.Declared ty n at) ≡ Next u → n ≤ max_members
+pub few_declared : (t : Tally) (ty : SpvType) (n at : ℕ) {u : Tally} → judged t (Some (says.Declared ty n at)) ≡ more u → n ≤ max_members
 unfolding judged declared_by
 few_declared t ty n at {u} e = go (ltb t.types max_types) (leb (t.members + n) max_members) refl e
   where
     go : (a b : Bool) → leb (t.members + n) max_members ≡ b
-        → cond a (cond b (Next record { setting = t.setting; types = t.types + 1; members = t.members + n; place = opened_by ty t.members n }) (Refused oversize)) (Refused oversize) ≡ Next u → n ≤ max_members
+        → cond a (cond b (more record { setting = t.setting; types = t.types + 1; members = t.members + n; place = opened_by ty t.members n }) (stop oversize)) (stop oversize) ≡ more u → n ≤ max_members
     go true true f e = omega (arith, leb-true (t.members + n) max_members f)
     go true false f e = absurd (never_next e)
     go false b f e = absurd (never_next e)
@@ -318,32 +319,32 @@ pub start_matches : (g : LayoutConfig) → Matches (empty_sheet g) (Setting g) (
 start_matches g = record { setting = refl; types = refl; members = refl; place = refl }
 
 module _ (line : List ℕ) (o : Option Line) where
-  pub first_went : {u : Tally} (l : SheetLine) → Says 0 line l o → judged_first l ≡ Next u → (u ≡ start_tally u.setting) × (o ≡ some (Setting u.setting)) × (first_line (Setting u.setting) ≡ ok (empty_sheet u.setting))
+  pub first_went : {u : Tally} (l : code.Option SheetLine) → Says 0 line l o → judged_first l ≡ more u → (u ≡ start_tally u.setting) × (o ≡ some (Setting u.setting)) × (first_line (Setting u.setting) ≡ ok (empty_sheet u.setting))
   unfolding judged_first set_by first_line ◌>>◌ refuse◌unless◌
-  first_went {u} (says.Setting g) w e = go (good_setting g) refl e
+  first_went {u} (Some (says.Setting g)) w e = go (good_setting g) refl e
     where
       good : {h : LayoutConfig} → good_setting h ≡ true → ((refuse bad_setting unless good_setting h) >> ok (empty_sheet h)) ≡ ok (empty_sheet h)
       good {h} f = rw f
 
-      go : (b : Bool) → good_setting g ≡ b → cond b (Next (start_tally g)) (Refused bad_setting) ≡ Next u → (u ≡ start_tally u.setting) × (o ≡ some (Setting u.setting)) × (first_line (Setting u.setting) ≡ ok (empty_sheet u.setting))
+      go : (b : Bool) → good_setting g ≡ b → cond b (more (start_tally g)) (stop bad_setting) ≡ more u → (u ≡ start_tally u.setting) × (o ≡ some (Setting u.setting)) × (first_line (Setting u.setting) ≡ ok (empty_sheet u.setting))
       go true f e =
           let q : start_tally g ≡ u = next_is e in
           subst (λ (x : Tally). (x ≡ start_tally x.setting) × (o ≡ some (Setting x.setting)) × (first_line (Setting x.setting) ≡ ok (empty_sheet x.setting))) q
           (refl, w, good f)
       go false f e = absurd (never_next e)
-  first_went (says.Declared ty n at) w e = absurd (never_next e)
-  first_went (says.Decorated d) w e = absurd (never_next e)
-  first_went (says.Asked a at) w e = absurd (never_next e)
-  first_went says.Misread w e = absurd (never_next e)
+  first_went (Some (says.Declared ty n at)) w e = absurd (never_next e)
+  first_went (Some (says.Decorated d)) w e = absurd (never_next e)
+  first_went (Some (says.Asked a at)) w e = absurd (never_next e)
+  first_went None w e = absurd (never_next e)
 
-  pub first_stops : {n : ℕ} (l : SheetLine) → Says 0 line l o → judged_first l ≡ Refused n → (formed o >>= first_line) ≡ refused n
+  pub first_stops : {n : ℕ} (l : code.Option SheetLine) → Says 0 line l o → judged_first l ≡ stop n → (formed o >>= first_line) ≡ refused n
   unfolding judged_first set_by first_line ◌>>=◌ ◌>>◌ refuse◌unless◌
-  first_stops {n} (says.Setting g) w e = rw w (go (good_setting g) e)
+  first_stops {n} (Some (says.Setting g)) w e = rw w (go (good_setting g) e)
     where
-      go : (b : Bool) → cond b (Next (start_tally g)) (Refused bad_setting) ≡ Refused n → ((refuse bad_setting unless b) >> ok (empty_sheet g)) ≡ refused n
+      go : (b : Bool) → cond b (more (start_tally g)) (stop bad_setting) ≡ stop n → ((refuse bad_setting unless b) >> ok (empty_sheet g)) ≡ refused n
       go true e = absurd (never_refused e)
       go false e = ap refused (number_is e)
-  first_stops (says.Declared ty n at) w e = rw w.told (ap refused (number_is e))
-  first_stops (says.Decorated d) w e = rw w (ap refused (number_is e))
-  first_stops (says.Asked a at) w e = rw w.told (ap refused (number_is e))
-  first_stops says.Misread w e = rw w (ap refused (number_is e))
+  first_stops (Some (says.Declared ty n at)) w e = rw w.told (ap refused (number_is e))
+  first_stops (Some (says.Decorated d)) w e = rw w (ap refused (number_is e))
+  first_stops (Some (says.Asked a at)) w e = rw w.told (ap refused (number_is e))
+  first_stops None w e = rw w (ap refused (number_is e))

@@ -1,7 +1,7 @@
 -- What the counts of a sheet that is being read say of it, and what a line may add. Assumes nothing.
 use Prim.Native.Nat.{ℕ}
 use native.Mathlib.Omega.{arith}
-use mathlib.Core.Path.{◌≡◌}
+use mathlib.Core.Path.{◌≡◌, ap}
 use mathlib.Core.Bool.{Bool, true, false}
 use mathlib.Core.List.{List, [], ◌∷◌, ◌++◌}
 use mathlib.Core.Option.{Option, some}
@@ -21,7 +21,10 @@ use Rattle.lines.specs.declared.SheetLine.TheVariants as says
 use Rattle.tally.specs.declared.Place.{Place}
 use Rattle.tally.specs.declared.Place.TheVariants.{Closed, Open, After}
 use Rattle.tally.specs.declared.Tally.{Tally}
-use Rattle.tally.specs.declared.Step.TheVariants.{Next, Refused}
+use Rattle.std.specs.Prelude as code
+use Rattle.std.specs.Prelude.{Some, None, Ok, Err}
+use Rattle.arith.specs.InCode.{OrRefusal}
+use Rattle.tally.specs.Counts.{more, stop}
 use Rattle.tally.proofs.Decorated.{decorated}
 
 -- ---- a sheet and its counts
@@ -68,15 +71,15 @@ RedoneAt Closed d ts us = ⊥
 RedoneAt (Open row) d ts us = Redone row d ts us
 RedoneAt (After row c) d ts us = Redone row d ts us
 
-abbrev pub Grows : (above : ℕ) → List ℕ → Place → SheetLine → List Decl → List Decl → Type 0
-Grows above line p (says.Setting g) ts us = ⊥
-Grows above line p (says.Declared ty n at) ts us = Added above line ty n at ts us
-Grows above line p (says.Decorated d) ts us = RedoneAt p d ts us
-Grows above line p (says.Asked a at) ts us = us ≡ ts
-Grows above line p says.Misread ts us = ⊥
+abbrev pub Grows : (above : ℕ) → List ℕ → Place → code.Option SheetLine → List Decl → List Decl → Type 0
+Grows above line p (Some (says.Setting g)) ts us = ⊥
+Grows above line p (Some (says.Declared ty n at)) ts us = Added above line ty n at ts us
+Grows above line p (Some (says.Decorated d)) ts us = RedoneAt p d ts us
+Grows above line p (Some (says.Asked a at)) ts us = us ≡ ts
+Grows above line p None ts us = ⊥
 
 -- the line is read, and the counts u are those of the sheet with it
-pub record Went (s : Sheet) (previous : Line) (t : Tally) (line : List ℕ) (l : SheetLine) (o : Option Line) (u : Tally) : Type 0 where
+pub record Went (s : Sheet) (previous : Line) (t : Tally) (line : List ℕ) (l : code.Option SheetLine) (o : Option Line) (u : Tally) : Type 0 where
   pub said : Line
   pub told : o ≡ some said
   pub sheet : Sheet
@@ -91,14 +94,18 @@ pub record WentBy (s : Sheet) (previous : Line) (p : Place) (d : MemberDecoratio
   pub matches : Matches sheet (Decorated d) u
   pub grows : RedoneAt p d s.types sheet.types
 
-pub never_next : {n : ℕ} {u : Tally} → Refused n ≡ Next u → ⊥
+pub never_next : {n : ℕ} {u : Tally} → stop n ≡ more u → ⊥
 never_next e = let z : ◌≡◌ {A = ℕ} 0 1 = cc in omega arith
 
-pub never_refused : {n : ℕ} {u : Tally} → Next u ≡ Refused n → ⊥
+pub never_refused : {n : ℕ} {u : Tally} → more u ≡ stop n → ⊥
 never_refused e = let z : ◌≡◌ {A = ℕ} 0 1 = cc in omega arith
 
-pub next_is : {t u : Tally} → Next t ≡ Next u → t ≡ u
+pub next_is : {t u : Tally} → more t ≡ more u → t ≡ u
 next_is e = cc
 
-pub number_is : {m n : ℕ} → Refused m ≡ Refused n → m ≡ n
-number_is e = cc
+pub number_is : {m n : ℕ} → stop m ≡ stop n → m ≡ n
+number_is {m} {n} e = ap number e
+  where
+    number : OrRefusal Tally → ℕ
+    number (Ok t) = m
+    number (Err r) = r.number

@@ -1,6 +1,7 @@
 -- The counts that refusals go by: how many types and members there are, and what stands above a line; and what a line makes of them.
-use Rattle.std.specs.Prelude.{ℕ, ◌+◌, ◌≤◌, ◌≡◌, Bool, true, false, cond, leb, ltb, eqb}
+use Rattle.std.specs.Prelude.{ℕ, ◌+◌, ◌≤◌, ◌≡◌, Bool, true, false, cond, leb, ltb, eqb, Option, Some, None, Ok}
 use Rattle.arith.specs.Refusals.{misread, oversize, bad_setting, row_major, offset_repeated, offsets_missing}
+use Rattle.arith.specs.InCode.{OrRefusal, err}
 use Rattle.spirv.specs.declared.Decoration.{Decoration}
 use Rattle.spirv.specs.declared.Decoration.TheVariants.{RowMajor, Offset}
 use Rattle.spirv.specs.declared.MemberDecoration.{MemberDecoration}
@@ -16,8 +17,6 @@ use Rattle.lines.specs.Says.{count_of}
 use Rattle.tally.specs.declared.Place.{Place}
 use Rattle.tally.specs.declared.Place.TheVariants.{Closed, Open, After}
 use Rattle.tally.specs.declared.Tally.{Tally}
-use Rattle.tally.specs.declared.Step.{Step}
-use Rattle.tally.specs.declared.Step.TheVariants.{Next, Refused}
 
 -- ---- a struct's row with a D line more
 
@@ -57,43 +56,50 @@ pub record Small (t : Tally) : Type 0 where
   pub read : read_in t.place ≤ 65536
   pub some_type : is_open t.place ≡ true → 1 ≤ t.types
 
+-- the counts with a line more, or its refusal
+abbrev pub more : Tally → OrRefusal Tally
+more t = Ok t
+
+abbrev pub stop : ℕ → OrRefusal Tally
+stop n = err n
+
 unfoldable pub opened_by : SpvType → (start count : ℕ) → Place
 opened_by ty start count = cond (is_struct ty) (Open (struct_row ty start count 0 0)) Closed
 
-unfoldable pub declared_by : Tally → SpvType → ℕ → Step
+unfoldable pub declared_by : Tally → SpvType → ℕ → OrRefusal Tally
 declared_by t ty n =
     cond (ltb t.types max_types)
     (cond (leb (t.members + n) max_members)
-    (Next record { setting = t.setting; types = t.types + 1; members = t.members + n; place = opened_by ty t.members n })
-    (Refused oversize))
-    (Refused oversize)
+    (more record { setting = t.setting; types = t.types + 1; members = t.members + n; place = opened_by ty t.members n })
+    (stop oversize))
+    (stop oversize)
 
-abbrev pub after_by : Tally → DeclRow → MemberDecoration → Step
-after_by t row d = Next (placed t (After (row_by row d) d))
+abbrev pub after_by : Tally → DeclRow → MemberDecoration → OrRefusal Tally
+after_by t row d = more (placed t (After (row_by row d) d))
 
-unfoldable pub decorated_by : Tally → Place → MemberDecoration → Step
-decorated_by t Closed d = Refused misread
+unfoldable pub decorated_by : Tally → Place → MemberDecoration → OrRefusal Tally
+decorated_by t Closed d = stop misread
 decorated_by t (Open row) d = after_by t row d
-decorated_by t (After row c) d = cond (before c d) (after_by t row d) (Refused misread)
+decorated_by t (After row c) d = cond (before c d) (after_by t row d) (stop misread)
 
-unfoldable pub asked_by : Tally → ℕ → Step
-asked_by t n = cond (leb n max_indices) (Next (placed t Closed)) (Refused oversize)
+unfoldable pub asked_by : Tally → ℕ → OrRefusal Tally
+asked_by t n = cond (leb n max_indices) (more (placed t Closed)) (stop oversize)
 
 -- a line below others
-unfoldable pub judged : Tally → SheetLine → Step
-judged t (says.Setting g) = Refused misread
-judged t (says.Declared ty n at) = declared_by t ty n
-judged t (says.Decorated d) = decorated_by t t.place d
-judged t (says.Asked a at) = asked_by t (count_of a)
-judged t says.Misread = Refused misread
+unfoldable pub judged : Tally → Option SheetLine → OrRefusal Tally
+judged t (Some (says.Setting g)) = stop misread
+judged t (Some (says.Declared ty n at)) = declared_by t ty n
+judged t (Some (says.Decorated d)) = decorated_by t t.place d
+judged t (Some (says.Asked a at)) = asked_by t (count_of a)
+judged t None = stop misread
 
 -- line 1
-unfoldable pub set_by : LayoutConfig → Step
-set_by g = cond (good_setting g) (Next (start_tally g)) (Refused bad_setting)
+unfoldable pub set_by : LayoutConfig → OrRefusal Tally
+set_by g = cond (good_setting g) (more (start_tally g)) (stop bad_setting)
 
-unfoldable pub judged_first : SheetLine → Step
-judged_first (says.Setting g) = set_by g
-judged_first (says.Declared ty n at) = Refused misread
-judged_first (says.Decorated d) = Refused misread
-judged_first (says.Asked a at) = Refused misread
-judged_first says.Misread = Refused misread
+unfoldable pub judged_first : Option SheetLine → OrRefusal Tally
+judged_first (Some (says.Setting g)) = set_by g
+judged_first (Some (says.Declared ty n at)) = stop misread
+judged_first (Some (says.Decorated d)) = stop misread
+judged_first (Some (says.Asked a at)) = stop misread
+judged_first None = stop misread
