@@ -1,6 +1,7 @@
 -- Document 01, program `lay`: what tables answer to each question, by its letter.
 use Rattle.std.specs.Prelude.{ℕ, List}
 use Rattle.shapes.specs.declared.LayoutConfig.{LayoutConfig}
+use Rattle.shapes.specs.declared.tables.Tables.{Tables}
 use Rattle.components.specs.Found.{answers_in}
 use Rattle.pointers.specs.OverTables.{length_over}
 use Rattle.answers.specs.Lines.{Source}
@@ -23,3 +24,7 @@ of_tables cfg n types layouts offsets members = record {
 -- a question whose indices stand in front of a list
 abbrev pub question_in : Ask → (list : List ℕ) → Question
 question_in a list = question_of a (indices_in (chain_words (count_of a) list))
+
+-- the tables as the code has them
+abbrev pub source : Tables → Source
+source t = of_tables t.cfg t.layouts.count t.types.now t.layouts.rows.now t.layouts.offsets.now t.layouts.members.now

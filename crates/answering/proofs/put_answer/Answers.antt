@@ -4,11 +4,11 @@ use Rattle.answering.proofs.put_answer.Goals as goal
 
 pub returns-in-T : goal.returns-in-T
 unfolding answer_by
-returns-in-T c = rw c.in-T.is (c.layout_line.ensures c.args.members.now)
+returns-in-T c = rw c.in-T.is (c.layout_line.ensures c.args.tables.now.layouts.members.now)
 
 pub returns-in-E : goal.returns-in-E
 unfolding answer_by
-returns-in-E c = rw c.in-E.is (c.equal_line.ensures c.args.members.now)
+returns-in-E c = rw c.in-E.is (c.equal_line.ensures c.args.tables.now.layouts.members.now)
 
 pub returns-in-Q : goal.returns-in-Q
 unfolding answer_by
@@ -24,4 +24,4 @@ returns-in-L c = rw c.in-L.is c.length_line.ensures
 
 pub returns-in-X : goal.returns-in-X
 unfolding answer_by
-returns-in-X c = rw c.in-X.is (c.variable_line.ensures c.args.offsets.now c.args.members.now)
+returns-in-X c = rw c.in-X.is (c.variable_line.ensures c.args.tables.now.layouts.offsets.now c.args.tables.now.layouts.members.now)
