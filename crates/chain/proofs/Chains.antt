@@ -1,7 +1,7 @@
 -- A chain over tables, by its first index. Assumes nothing.
 use Prim.Native.Nat.{ℕ, ◌+◌, ◌<◌, ◌≤◌}
 use native.Mathlib.Omega.{arith}
-use mathlib.Core.Path.{◌≡◌, refl, sym, ap, ◌∙◌, subst}
+use mathlib.Core.Path.{◌≡◌, refl, sym, ap, ◌∙◌}
 use mathlib.Core.Bool.{Bool, true, false, cond}
 use mathlib.Core.List.{List, [], ◌∷◌, ◌++◌}
 use mathlib.Core.Option.{Option, none, some}
@@ -10,7 +10,7 @@ use lib.IntN.{ℤ, pos}
 use lib.ListN.{length, get_or, drop, length-drop}
 use lib.Seq.{drop-drop, get_or-drop}
 use borrow.Author.Tests.{lt-ltb, le-ltb}
-use Rattle.std.specs.Prelude.{None, Some, Ok, Err}
+use Rattle.std.specs.Prelude.{None, Ok, Err}
 use Rattle.arith.specs.Refusals.{Result, ok, refused, ◌>>◌, refuse◌when◌, oversize}
 use Rattle.arith.specs.Numbers.{max_i32, signed}
 use Rattle.arith.specs.InCode.{OrRefusal, err}
@@ -32,9 +32,9 @@ use Rattle.moves.specs.declared.Move.TheVariants.{Onward, Emit, Inside}
 use Rattle.moves.specs.declared.By.{By}
 use Rattle.moves.specs.declared.By.TheVariants as by
 use Rattle.moves.specs.Moves.{index_of, indices_in, by_offset, field_by, by_field, field_way, part_way, onward, by_constant, arrived, move_by, move_of}
-use Rattle.moves.specs.Written.{before, after_of, in_room_behind}
+use Rattle.moves.specs.Written.{before, in_room_behind}
 use Rattle.chain.specs.declared.Run.{Run}
-use Rattle.chain.specs.Chains.{weight, chain_from, on_from, chain_of, ran_on, Falls, Ran}
+use Rattle.chain.specs.Chains.{weight, chain_from, on_from, chain_of, ran_on, Ran}
 use Rattle.moves.proofs.Lowers.{follow, more, no_more, as_placed}
 
 -- ---- indices as words
@@ -86,10 +86,6 @@ weight_most (Buffer c) = omega arith
 weight_most (Buffers c) = omega arith
 weight_most Opaque = omega arith
 weight_most Opaques = omega arith
-
-pub after_most : (p : Pending) (n : ℕ) → after_of p n ≤ n + 1
-after_most None n = omega arith
-after_most (Some z) n = omega arith
 
 -- ---- a walk, by the index at a place of the words
 
@@ -148,9 +144,6 @@ module _ (layouts offsets members : List ℕ) (types : ℕ) (chain : List ℕ) w
 module _ {layouts offsets members : List ℕ} {types : ℕ} {chain : List ℕ} {from : ℕ} {l : Place} {p : Pending} {r x : OrRefusal Run} where
   pub ran_of : Ran layouts offsets members types chain from l p r → r ≡ x → on_from layouts offsets members types chain from l p ≡ ran_on layouts offsets members types chain x
   ran_of h e = h.goes ∙ ap (ran_on layouts offsets members types chain) e
-
-  pub falls_of : Ran layouts offsets members types chain from l p r → r ≡ x → Falls layouts offsets members types chain from l x
-  falls_of h e = subst (Falls layouts offsets members types chain from l) e h.falls
 
 -- ---- only a buffer is entered
 

@@ -13,7 +13,7 @@ use places::Place;
 use shapes::tables::Layouts;
 
 // How far a walk gets without a step: it ends, this offset waiting; or it gives a step behind what waits, and goes on from there.
-#[derive(Clone, Copy)]
+#[derive(Clone, Copy, Debug, PartialEq, Eq, Hash)]
 pub enum Run {
     Ended(Option<i32>),
     Gives {

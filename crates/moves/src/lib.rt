@@ -16,14 +16,14 @@ use shapes::tables::Layouts;
 use spirv::Index;
 
 // How a part is reached: an element by its index, a field by its offset, which then waits.
-#[derive(Clone, Copy)]
+#[derive(Clone, Copy, Debug, PartialEq, Eq, Hash)]
 pub enum By {
     Element { stride: u32, len: u32 },
     Field(Option<i32>),
 }
 
 // Where an index leads, whatever the layout is there: to a part of a type; to a handle of an array; into a buffer.
-#[derive(Clone, Copy)]
+#[derive(Clone, Copy, Debug, PartialEq, Eq, Hash)]
 pub enum Way {
     Part { ty: u32, by: By },
     Give(Place),
@@ -31,7 +31,7 @@ pub enum Way {
 }
 
 // Where an index leads: on to a place, this offset waiting; on to it behind a step; into a buffer, the index still to be used.
-#[derive(Clone, Copy)]
+#[derive(Clone, Copy, Debug, PartialEq, Eq, Hash)]
 pub enum Move {
     Onward(Place, Option<i32>),
     Emit(Place, QPtrOp),
