@@ -16,7 +16,7 @@ returns-in-BufferData c = let d = c.default.ensures in rw (c.in-BufferData.is, d
 
 pub returns-in-Offset : goal.returns-in-Offset
 unfolding encode
-returns-in-Offset c = 
+returns-in-Offset c =
     let d = c.default-in-Offset.ensures in
     rw (c.in-Offset.is, d.1.1.0, d.1.1.1.0, d.1.1.1.1, c.cast_unsigned.ensures, to_z-of_z w32 c.in-Offset.z (search rules), as_word)
 
