@@ -2,4 +2,3 @@ pub mod Stays
 pub mod Onward
 pub mod Run
 pub mod Examples
-pub mod Going

@@ -1,8 +1,10 @@
 -- The questions of a sheet from a place on: those that the lines behind it ask, in their order.
-use Rattle.std.specs.Prelude.{ℕ, ◌*◌, ◌≤◌, ◌<◌, ◌≡◌, List, [], ◌∷◌, ◌++◌, length, drop}
+use Rattle.std.specs.Prelude.{ℕ, ◌*◌, ◌≤◌, ◌<◌, ◌≡◌, List, [], ◌∷◌, ◌++◌, length, drop, Some, None, Ok, Err}
+use Rattle.std.specs.Prelude as std
 use Rattle.std.proofs.Math.Option.{Option, none, some}
 use Rattle.arith.specs.Numbers.{max_u32}
-use Rattle.arith.specs.Refusals.{ok}
+use Rattle.arith.specs.Refusals.{ok, short_list}
+use Rattle.arith.specs.InCode.{OrRefusal}
 use Rattle.decimal.specs.Text.{split}
 use Rattle.spirv.specs.declared.Index.{Index}
 use Rattle.spirv.specs.Questions.{Question}
@@ -14,10 +16,7 @@ use Rattle.sheet.specs.Tables.{over}
 use Rattle.fields.specs.Pieces.{behind}
 use Rattle.lines.specs.declared.Ask.{Ask}
 use Rattle.lines.specs.Says.{count_of, question_of, Asks, index_words}
-use Rattle.asking.specs.declared.Asking.{Asking}
-use Rattle.asking.specs.declared.Asking.TheVariants as asking
-use Rattle.asking.specs.declared.NextQuestion.{NextQuestion}
-use Rattle.asking.specs.declared.NextQuestion.TheVariants as next
+use Rattle.asking.specs.declared.Question as code
 
 -- ---- the questions from a place on
 
@@ -47,9 +46,9 @@ questions_from sheet at = questions_in (split 10 (drop at sheet))
 -- ---- one question
 
 -- what a line is found to ask
-abbrev pub Finds : List ℕ → Asking → Option Line → Type 0
-Finds line (asking.Asked a at) o = Asks line a at o
-Finds line asking.Nothing o = asked_in o ≡ []
+abbrev pub Finds : List ℕ → std.Option (Ask × ℕ) → Option Line → Type 0
+Finds line (Some found) o = Asks line found.0 found.1 o
+Finds line None o = asked_in o ≡ []
 
 -- a question's indices, read from the fields behind index `at` of a line and written, or a list that is too short for them
 pub record Handed (line : List ℕ) (a : Ask) (at k : ℕ) (b : Ask) (n : ℕ) (old new : List ℕ) : Type 0 where
@@ -57,10 +56,9 @@ pub record Handed (line : List ℕ) (a : Ask) (at k : ℕ) (b : Ask) (n : ℕ) (
   pub place : n ≡ k
   pub list : (is : List Index) → read_all read_index (behind line at) ≡ some is → length is ≡ count_of a → new ≡ over (index_words is) old
 
-abbrev pub Hands : List ℕ → Ask → ℕ → ℕ → NextQuestion → (old new : List ℕ) → Type 0
-Hands line a at k (next.Question b n) old new = Handed line a at k b n old new
-Hands line a at k next.End old new = ⊥
-Hands line a at k next.Short old new = (length old < 2 * count_of a) × (new ≡ old)
+abbrev pub Hands : List ℕ → Ask → ℕ → ℕ → OrRefusal code.Question → (old new : List ℕ) → Type 0
+Hands line a at k (Ok q) old new = Handed line a at k q.ask q.next old new
+Hands line a at k (Err e) old new = (e.number ≡ short_list) × (length old < 2 * count_of a) × (new ≡ old)
 
 -- the question a is the first of those from `at` on, those behind it are those from n on, and its indices stand in the list
 pub record Next (sheet : List ℕ) (at : ℕ) (a : Ask) (n : ℕ) (old new : List ℕ) : Type 0 where
@@ -83,10 +81,10 @@ pub record Ended (sheet : List ℕ) (at : ℕ) (old new : List ℕ) : Type 0 whe
   pub none : questions_from sheet at ≡ []
   pub list : new ≡ old
 
-abbrev pub Steps : (sheet : List ℕ) (at : ℕ) → NextQuestion → (old new : List ℕ) → Type 0
-Steps sheet at (next.Question a n) old new = Next sheet at a n old new
-Steps sheet at next.End old new = Ended sheet at old new
-Steps sheet at next.Short old new = Short sheet at old new
+abbrev pub Steps : (sheet : List ℕ) (at : ℕ) → OrRefusal (std.Option code.Question) → (old new : List ℕ) → Type 0
+Steps sheet at (Ok (Some q)) old new = Next sheet at q.ask q.next old new
+Steps sheet at (Ok None) old new = Ended sheet at old new
+Steps sheet at (Err e) old new = (e.number ≡ short_list) × Short sheet at old new
 
 -- ---- of a sheet that is read, the questions from its start on are its questions, and a list of 510 words is never too short for one of them
 

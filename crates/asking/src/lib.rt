@@ -4,71 +4,57 @@
 ghost use Rattle.sheet.specs.Grammar.{read_line};
 ghost use Rattle.asking.specs.Questions.{any_type, Finds, Hands, Steps};
 
+use arith::refusal::Refusal;
 use lines::{Ask, SheetLine};
 
-// What a line asks, where it does.
-#[derive(Clone, Copy)]
-pub enum Asking {
-    Asked { ask: Ask, at: usize },
-    Nothing,
+// A question, and the place behind its line.
+#[derive(Clone, Copy, Debug, PartialEq, Eq, Hash)]
+pub struct Question {
+    pub ask: Ask,
+    pub next: usize,
 }
 
-// The next question, with the place behind its line; none; or one whose indices the lent list is too short for.
-#[derive(Clone, Copy)]
-pub enum NextQuestion {
-    Question { ask: Ask, next: usize },
-    End,
-    Short,
-}
-
-fn question_in(line: &[u8]) -> Asking
+// What a line asks, and where its indices stand.
+fn question_in(line: &[u8]) -> Option<(Ask, usize)>
     ensures { Finds line.now result (read_line any_type line.now) }
 {
-    match lines::read_line(line, 0xffff_ffff) {
-        SheetLine::Setting(_) => Asking::Nothing,
-        SheetLine::Declared {
-            ty: _,
-            count: _,
-            at: _,
-        } => Asking::Nothing,
-        SheetLine::Decorated(_) => Asking::Nothing,
-        SheetLine::Asked { ask, at } => Asking::Asked { ask, at },
-        SheetLine::Misread => Asking::Nothing,
+    match lines::read_line(line, u32::MAX) {
+        Some(SheetLine::Asked { ask, at }) => Some((ask, at)),
+        _ => None,
     }
 }
 
-// A question with its indices written, two words each.
-fn hand(line: &[u8], ask: Ask, at: usize, next: usize, indices: &mut [u32]) -> NextQuestion
+// A question with its indices written, two words each; 24 where the list is too short for them.
+fn hand(
+    line: &[u8],
+    ask: Ask,
+    at: usize,
+    next: usize,
+    indices: &mut [u32],
+) -> Result<Question, Refusal>
     ensures { Hands line.now ask at next result indices.old indices.new }
 {
     if indices.len() / 2 < tally::count_of(ask) {
-        return NextQuestion::Short;
+        return Err(Refusal::SHORT_LIST);
     }
     lines::put_indices(line, at, indices);
-    NextQuestion::Question { ask, next }
+    Ok(Question { ask, next })
 }
 
-// The next question from a place that begins a line.
-pub fn next_question(sheet: &[u8], at: usize, indices: &mut [u32]) -> NextQuestion
+// The next question from a place that begins a line; none at the end.
+pub fn next_question(
+    sheet: &[u8],
+    at: usize,
+    indices: &mut [u32],
+) -> Result<Option<Question>, Refusal>
     ensures { Steps sheet.now at result indices.old indices.new }
 {
-    if sheet.len() < at {
-        return NextQuestion::End;
-    }
     let mut from = at;
-    loop {
-        let e = fields::piece_end(sheet, from, 10);
-        if e == sheet.len() {
-            return NextQuestion::End;
-        }
-        let line = &sheet[from..e];
-        match question_in(line) {
-            Asking::Asked { ask, at: place } => {
-                return hand(line, ask, place, e + 1, indices);
-            }
-            Asking::Nothing => {
-                from = e + 1;
-            }
+    while let Some(line) = fields::line_at(sheet, from) {
+        from += line.len() + 1;
+        if let Some((ask, place)) = question_in(line) {
+            return hand(line, ask, place, from, indices).map(Some);
         }
     }
+    Ok(None)
 }

@@ -7,7 +7,7 @@ use native.Mathlib.Numerals.{one-add}
 use native.Mathlib.Omega.{arith}
 use borrow.Author.Tests.{lt-ltb, le-ltb, ltb-true, ltb-false}
 use lib.Dec.{eqb, ltb}
-use lib.ListN.{length, take, drop, length-drop, drop_of_length-le}
+use lib.ListN.{length, take, drop, length-drop}
 use Rattle.std.specs.List.{position_or_len}
 use lib.Seq.{drop-drop}
 use Rattle.decimal.specs.Text.{split, in_first}
@@ -27,10 +27,6 @@ split_some c (b ∷ l) = go (eqb b c) (first_some b (split c l))
     go : (x : Bool) → (q : List ℕ) × (qs : List (List ℕ)) × (in_first b (split c l) ≡ q ∷ qs) → (q : List ℕ) × (qs : List (List ℕ)) × (cond x ([] ∷ split c l) (in_first b (split c l)) ≡ q ∷ qs)
     go true h = ([], split c l, refl)
     go false h = h
-
-pub split_end : (c : ℕ) (s : List ℕ) (i : ℕ) → length s ≤ i → split c (drop i s) ≡ [] ∷ []
-unfolding split
-split_end c s i h = rw (drop_of_length-le s h)
 
 -- ---- the first piece ends where the byte first stands
 
