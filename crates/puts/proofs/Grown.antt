@@ -5,6 +5,7 @@ use mathlib.Core.Path.{◌≡◌, refl, sym, ap, ◌∙◌}
 use mathlib.Core.List.{List, [], ◌∷◌}
 use lib.ListN.{length, replicate, length-append, length-replicate}
 use lib.Seq.{take_all}
+use Rattle.std.specs.Prelude.{Option, Some, None}
 use Rattle.spirv.specs.declared.MemberDecoration.{MemberDecoration}
 use Rattle.spirv.specs.declared.SpvType.{SpvType}
 use Rattle.spirv.specs.declared.DeclRow.{DeclRow}
@@ -76,10 +77,10 @@ module _ {ty₀ me₀ gi₀ ty me gi ty' me' gi' : List ℕ} {ts us : List Decl}
   decoration (Open row) count d h r f p = redone h r f p
   decoration (After row c) count d h r f p = redone h r f p
 
-  pub grown : (t : Tally) (line : List ℕ) (l : SheetLine) → t.types ≡ length ts → t.members ≡ member_count ts → Grows t.types line t.place l ts us
+  pub grown : (t : Tally) (line : List ℕ) (l : Option SheetLine) → t.types ≡ length ts → t.members ≡ member_count ts → Grows t.types line t.place l ts us
       → Filled ts ty₀ me₀ gi₀ ty me gi → Put t line l ty me gi ty' me' gi' → Filled us ty₀ me₀ gi₀ ty' me' gi'
-  grown t line (says.Setting g) ht hm w f p = absurd w
-  grown t line (says.Declared k n at) ht hm w f p = added ht hm w f p
-  grown t line (says.Decorated d) ht hm w f p = decoration t.place t.types d ht w f p
-  grown t line (says.Asked a at) ht hm w f p = as_before w f p
-  grown t line says.Misread ht hm w f p = absurd w
+  grown t line (Some (says.Setting g)) ht hm w f p = absurd w
+  grown t line (Some (says.Declared k n at)) ht hm w f p = added ht hm w f p
+  grown t line (Some (says.Decorated d)) ht hm w f p = decoration t.place t.types d ht w f p
+  grown t line (Some (says.Asked a at)) ht hm w f p = as_before w f p
+  grown t line None ht hm w f p = absurd w

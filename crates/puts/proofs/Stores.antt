@@ -1,10 +1,12 @@
 -- Laws of words stored into lists. Assumes nothing.
-use Prim.Native.Nat.{ℕ, zero, suc, ◌+◌, ◌<◌}
+use Prim.Native.Nat.{ℕ, zero, suc, ◌+◌, ◌-◌, ◌<◌, min}
+use borrow.Rule.Slice.PartMut.{put_mid}
+use Rattle.std.proofs.lemmas.List.{take-replicate}
+use Rattle.spirv.proofs.Words.{part_put}
 use native.Mathlib.Omega.{arith}
-use native.Mathlib.Numerals.{add-one}
-use mathlib.Core.Path.{◌≡◌, refl, ap}
+use mathlib.Core.Path.{◌≡◌, refl, sym, ◌∙◌}
 use mathlib.Core.List.{List, [], ◌∷◌, ◌++◌}
-use lib.ListN.{length, set, replicate, length-replicate}
+use lib.ListN.{length, set, take, replicate, length-replicate}
 use lib.Seq.{sets, set-set}
 use Rattle.arith.proofs.Stores.{sets_append, set_before}
 
@@ -40,10 +42,10 @@ last_in l a b n k v e h =
 pub words_more : (l a b : List ℕ) (n : ℕ) → length a ≡ n → sets (sets l 0 a) n b ≡ sets l 0 (a ++ b)
 words_more l a b n e = let z : 0 + length a ≡ n = omega arith in rw (sets_append l 0 a b, z)
 
--- one zero more
-zeros_more : (i : ℕ) → replicate {A = ℕ} (suc i) 0 ≡ replicate i 0 ++ (0 ∷ [])
-zeros_more zero = refl
-zeros_more (suc i) = ap (λ (x : List ℕ). 0 ∷ x) (zeros_more i)
-
-pub zero_more : (l : List ℕ) (at i : ℕ) → set (sets l at (replicate i 0)) (at + i) 0 ≡ sets l at (replicate (i + 1) 0)
-zero_more l at i = rw (add-one, zeros_more i, sets_append l at (replicate i 0) (0 ∷ []), length-replicate {A = ℕ} i 0)
+-- as many zeros as there is room for are stored, and so all
+pub zeros_put : (l z : List ℕ) (at n k m : ℕ) → k ≡ m → m ≡ min n (length l - at) → at < length l → z ≡ replicate m 0 → put_mid at k l z ≡ sets l at (replicate n 0)
+zeros_put l z at n k m e q h r =
+    let w : List ℕ = replicate n 0 in
+    let s : length w ≡ n = length-replicate {A = ℕ} n 0 in
+    let t : take m w ≡ z = take-replicate m n 0 (omega arith) ∙ sym r in
+    rw (← t) (part_put l at m k w e (omega arith) h)

@@ -1,5 +1,5 @@
 -- What a line writes into the lists, at the counts of the lines above it.
-use Rattle.std.specs.Prelude.{ℕ, ◌+◌, ◌-◌, ◌*◌, ◌≤◌, ◌≡◌, Bool, true, false, cond, List, [], ◌∷◌, eqb, ltb, replicate}
+use Rattle.std.specs.Prelude.{ℕ, ◌+◌, ◌-◌, ◌*◌, ◌≤◌, ◌≡◌, Bool, true, false, cond, List, [], ◌∷◌, eqb, ltb, replicate, Option, Some, None}
 use Rattle.std.proofs.Math.Option.{some}
 use Rattle.std.proofs.lemmas.List.Edits.{sets}
 use Rattle.spirv.specs.declared.Decoration.{Decoration}
@@ -62,27 +62,27 @@ PutDecoration (After row c) d count ty me gi ty' me' gi' = RedecoratingAll row d
 
 -- ---- any line
 
-abbrev pub Put : Tally → List ℕ → SheetLine → (ty me gi ty' me' gi' : List ℕ) → Type 0
-Put t line (says.Setting g) ty me gi ty' me' gi' = Untouched ty me gi ty' me' gi'
-Put t line (says.Declared d n at) ty me gi ty' me' gi' = Declaring t line d n at ty me gi ty' me' gi'
-Put t line (says.Decorated d) ty me gi ty' me' gi' = PutDecoration t.place d t.types ty me gi ty' me' gi'
-Put t line (says.Asked a at) ty me gi ty' me' gi' = Untouched ty me gi ty' me' gi'
-Put t line says.Misread ty me gi ty' me' gi' = Untouched ty me gi ty' me' gi'
+abbrev pub Put : Tally → List ℕ → Option SheetLine → (ty me gi ty' me' gi' : List ℕ) → Type 0
+Put t line (Some (says.Setting g)) ty me gi ty' me' gi' = Untouched ty me gi ty' me' gi'
+Put t line (Some (says.Declared d n at)) ty me gi ty' me' gi' = Declaring t line d n at ty me gi ty' me' gi'
+Put t line (Some (says.Decorated d)) ty me gi ty' me' gi' = PutDecoration t.place d t.types ty me gi ty' me' gi'
+Put t line (Some (says.Asked a at)) ty me gi ty' me' gi' = Untouched ty me gi ty' me' gi'
+Put t line None ty me gi ty' me' gi' = Untouched ty me gi ty' me' gi'
 
-abbrev pub declared_count : SheetLine → ℕ
-declared_count (says.Setting g) = 0
-declared_count (says.Declared d n at) = n
-declared_count (says.Decorated d) = 0
-declared_count (says.Asked a at) = 0
-declared_count says.Misread = 0
+abbrev pub declared_count : Option SheetLine → ℕ
+declared_count (Some (says.Setting g)) = 0
+declared_count (Some (says.Declared d n at)) = n
+declared_count (Some (says.Decorated d)) = 0
+declared_count (Some (says.Asked a at)) = 0
+declared_count None = 0
 
 -- what is not refused can be put
-pub record Putable (t : Tally) (l : SheetLine) : Type 0 where
+pub record Putable (t : Tally) (l : Option SheetLine) : Type 0 where
   pub few : declared_count l ≤ 1024
   pub small : Small t
 
 -- what is put where it is to be written; else nothing is
-pub record Wrote (write : Bool) (t : Tally) (line : List ℕ) (l : SheetLine) (ty me gi ty' me' gi' : List ℕ) : Type 0 where
+pub record Wrote (write : Bool) (t : Tally) (line : List ℕ) (l : Option SheetLine) (ty me gi ty' me' gi' : List ℕ) : Type 0 where
   pub yes : write ≡ true → Put t line l ty me gi ty' me' gi'
   pub no : write ≡ false → Untouched ty me gi ty' me' gi'
 

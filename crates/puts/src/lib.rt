@@ -13,52 +13,40 @@ use tally::{Place, Tally};
 fn put_zeros(list: &mut [u32], first: u32, n: usize)
     ensures { list.new ≡ sets list.old first (replicate n 0) }
 {
-    let mut i: usize = 0;
-    while i < n {
-        lines::put_at(list, first as usize, i, 0);
-        i += 1;
+    let at = first as usize;
+    if at < list.len() {
+        let room = n.min(list.len() - at);
+        list[at..at + room].fill(0);
     }
 }
 
 // The offset that a D line gives, at its place among the struct's, where it counts as read and there is such a member.
+#[tactic(auto, using(std::proofs::lemmas::Bool::Decides::nat_tests), unfolding(crate::specs::Puts::offset_words))]
 fn put_offset(list: &mut [u32], row: DeclRow, d: MemberDecoration)
     ensures { list.new ≡ sets list.old (row.start + row.read) (offset_words row d) }
 {
-    if row.refusal != 0 {
+    if row.refusal != 0 || d.member != row.read || row.count <= row.read {
         return;
     }
-    if d.member != row.read {
-        return;
-    }
-    if row.count <= row.read {
-        return;
-    }
-    let decoration = d.decoration;
-    match decoration {
-        Decoration::RowMajor => {}
-        Decoration::Offset(v) => {
-            lines::put_at(list, row.start as usize, row.read as usize, v);
-        }
+    if let Decoration::Offset(v) = d.decoration {
+        lines::put_at(list, row.start as usize, row.read as usize, v);
     }
 }
 
 // The row of a type that no D line follows so far.
+#[tactic(auto, unfolding(crate::specs::Puts::fresh_row))]
 fn fresh_row(ty: SpvType, start: u32, count: u32) -> DeclRow
     ensures { result ≡ fresh_row ty start count }
 {
-    if tally::is_struct(ty) {
-        return DeclRow {
-            ty,
-            start,
-            count,
-            refusal: 0,
-            read: 0,
-        };
-    }
+    let (start, count) = if tally::is_struct(ty) {
+        (start, count)
+    } else {
+        (0, 0)
+    };
     DeclRow {
         ty,
-        start: 0,
-        count: 0,
+        start,
+        count,
         refusal: 0,
         read: 0,
     }
@@ -95,15 +83,14 @@ fn put_decoration(
     requires { (row.read ≤ 65536) × (1 ≤ count) }
     ensures { Redecorating row d count types.old given.old types.new given.new }
 {
-    let row2 = tally::reduce(row, d);
-    spirv::write_row(types, count - 1, row2);
+    spirv::write_row(types, count - 1, tally::reduce(row, d));
     put_offset(given, row, d);
 }
 
 // What a line that is not refused writes.
 pub fn put(
     line: &[u8],
-    l: SheetLine,
+    l: Option<SheetLine>,
     t: Tally,
     types: &mut [u32],
     members: &mut [u32],
@@ -113,23 +100,14 @@ pub fn put(
     ensures { Put t line.now l types.old members.old given.old types.new members.new given.new }
 {
     match l {
-        SheetLine::Setting(_) => {}
-        SheetLine::Declared { ty, count, at } => {
+        Some(SheetLine::Declared { ty, count, at }) => {
             put_type(line, ty, count, at, t, types, members, given);
         }
-        SheetLine::Decorated(d) => {
-            let place = t.place;
-            match place {
-                Place::Closed => {}
-                Place::Open(row) => {
-                    put_decoration(row, d, t.types, types, given);
-                }
-                Place::After(row, _) => {
-                    put_decoration(row, d, t.types, types, given);
-                }
+        Some(SheetLine::Decorated(d)) => {
+            if let Place::Open(row) | Place::After(row, _) = t.place {
+                put_decoration(row, d, t.types, types, given);
             }
         }
-        SheetLine::Asked { ask: _, at: _ } => {}
-        SheetLine::Misread => {}
+        _ => {}
     }
 }

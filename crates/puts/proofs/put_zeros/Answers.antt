@@ -1,19 +1,13 @@
--- `puts::put_zeros` meets its contract. The loop's invariant: i zeros are stored.
-use borrow.Author.Rules.{rules}
-use native.Mathlib.Omega.{arith}
-use mathlib.Core.Path.{◌≡◌, refl, ap, ◌∙◌}
-use lib.ListN.{length, length-set}
-use Rattle.puts.proofs.Stores.{zero_more}
+-- `puts::put_zeros` meets its contract. Assumes nothing.
+use Rattle.std.proofs.Common.{◌≡◌, replicate, sym, arith, rules}
+use Rattle.arith.proofs.Stores.{sets_past}
+use Rattle.puts.proofs.Stores.{zeros_put}
 use Rattle.puts.proofs.put_zeros.Goals as goal
 
-pub loop-i-init : goal.loop-i-init
-loop-i-init c = (search rules, refl, refl)
+pub returns-then-at-list : goal.returns-then-at-list
+returns-then-at-list c =
+    let z : c.fill.new.self ≡ replicate c.min-room.result 0 = search rules in
+    zeros_put _ _ _ _ _ _ (omega arith) c.min-room.ensures c.if-at-list.true z
 
-pub loop-i-preserved : goal.loop-i-preserved
-loop-i-preserved c = let l = c.loop-i in (search rules, c.put_at.ensures ∙ (rw l.invariant.1 (zero_more _ _ l.i)), ap length c.put_at.ensures ∙ (simp length-set l.invariant.2))
-
-pub shape_of-list : goal.shape_of-list
-shape_of-list c = c.loop-i.invariant.2
-
-pub returns : goal.returns
-returns c = let l = c.loop-i in let e : l.i ≡ c.args.n = omega (arith, l.invariant.0, c.loop-i-test.false) in rw e at l.invariant.1
+pub returns-else-at-list : goal.returns-else-at-list
+returns-else-at-list c = sym (sets_past c.args.list.now _ (replicate c.args.n 0) c.if-at-list.false)
