@@ -4,41 +4,32 @@
 ghost use Rattle.std.specs.Prelude.{◌≡◌, ◌≤◌, length, drop};
 ghost use Rattle.std.proofs.lemmas.List.Edits.{sets};
 ghost use Rattle.decimal.specs.Text.{split};
-ghost use Rattle.spirv.specs.Rows.{flag_word};
 ghost use Rattle.sheet.specs.Grammar.{Setting};
 ghost use Rattle.sheet.specs.Sheet.{read_lines, read_pieces};
 ghost use Rattle.sheet.specs.Tables.{setting_words};
 ghost use Rattle.puts.specs.Puts.{Putable, Wrote};
 ghost use Rattle.reading.specs.Reads.{finished_by, empty_sheet, Passed, fits_by, ReadsInto};
 
+use arith::refusal::Refusal;
 use lines::SheetLine;
 use shapes::LayoutConfig;
-use tally::{Step, Tally};
+use tally::Tally;
 
-// What a pass comes to: the setting and the counts, or the refusal.
-#[derive(Clone, Copy)]
-pub enum End {
-    Done {
-        setting: LayoutConfig,
-        types: u32,
-        members: u32,
-    },
-    Refused(u32),
-}
-
-// How many types were read, or the refusal.
-#[derive(Clone, Copy)]
-pub enum SheetAnswer {
-    Types(u32),
-    Refused(u32),
+// What a pass comes to: the setting, and how many types and members there are.
+#[derive(Clone, Copy, Debug, PartialEq, Eq, Hash)]
+pub struct Counts {
+    pub setting: LayoutConfig,
+    pub types: u32,
+    pub members: u32,
 }
 
 // ---- the lines from the top
 
+// A pass writes, or only judges: a flag, since two functions would hold the same loop twice.
 fn put_if(
     write: bool,
     line: &[u8],
-    l: SheetLine,
+    l: Option<SheetLine>,
     t: Tally,
     types: &mut [u32],
     members: &mut [u32],
@@ -53,18 +44,18 @@ fn put_if(
 }
 
 // Behind the last LF nothing may stand.
-fn finished(rest: usize, t: Tally) -> End
+#[tactic(auto, unfolding(crate::specs::Reads::finished_by))]
+fn finished(rest: usize, t: Tally) -> Result<Counts, Refusal>
     ensures { result ≡ finished_by rest t }
 {
     if 0 < rest {
-        return End::Refused(1);
+        return Err(Refusal::MISREAD);
     }
-    let setting = t.setting;
-    End::Done {
-        setting,
+    Ok(Counts {
+        setting: t.setting,
         types: t.types,
         members: t.members,
-    }
+    })
 }
 
 // The lines from index `from` on, below a setting.
@@ -76,64 +67,53 @@ fn rest(
     members: &mut [u32],
     given: &mut [u32],
     write: bool,
-) -> End
+) -> Result<Counts, Refusal>
     requires { (length s.now ≤ 65536) × (from ≤ length s.now) }
     ensures { Passed write (read_lines (empty_sheet g) (Setting g) (split 10 (drop from s.now))) result types.old members.old given.old types.new members.new given.new }
 {
     let mut t = tally::start(g);
     let mut at = from;
-    loop {
-        let e = fields::piece_end(s, at, 10);
-        if e == s.len() {
-            return finished(e - at, t);
-        }
-        let line = &s[at..e];
+    while let Some(line) = fields::line_at(s, at) {
         let l = lines::read_line(line, t.types);
-        match tally::judge(t, l) {
-            Step::Refused(n) => {
-                return End::Refused(n);
-            }
-            Step::Next(next) => {
-                put_if(write, line, l, t, types, members, given);
-                t = next;
-                at = e + 1;
-            }
-        }
+        let next = tally::judge(t, l)?;
+        put_if(write, line, l, t, types, members, given);
+        t = next;
+        at += line.len() + 1;
     }
+    finished(s.len() - at, t)
 }
 
 // All lines, line 1 first.
-fn pass(s: &[u8], types: &mut [u32], members: &mut [u32], given: &mut [u32], write: bool) -> End
+fn pass(
+    s: &[u8],
+    types: &mut [u32],
+    members: &mut [u32],
+    given: &mut [u32],
+    write: bool,
+) -> Result<Counts, Refusal>
     requires { length s.now ≤ 65536 }
     ensures { Passed write (read_pieces (split 10 s.now)) result types.old members.old given.old types.new members.new given.new }
 {
-    let e = fields::piece_end(s, 0, 10);
-    if e == s.len() {
-        return End::Refused(1);
-    }
-    let at = e + 1;
-    match tally::judge_first(lines::read_line(&s[0..e], 0)) {
-        Step::Refused(n) => End::Refused(n),
-        Step::Next(t) => {
-            let g = t.setting;
-            rest(s, at, g, types, members, given, write)
-        }
-    }
+    let line = fields::line_at(s, 0).ok_or(Refusal::MISREAD)?;
+    let first = tally::judge_first(lines::read_line(line, 0))?;
+    rest(
+        s,
+        line.len() + 1,
+        first.setting,
+        types,
+        members,
+        given,
+        write,
+    )
 }
 
 // ---- the whole
-
-fn flag_word(b: bool) -> u32
-    ensures { result ≡ flag_word b }
-{
-    if b { 1 } else { 0 }
-}
 
 fn put_setting(list: &mut [u32], g: LayoutConfig)
     ensures { list.new ≡ sets list.old 0 (setting_words g) }
 {
     let words = [
-        flag_word(g.ignore_legacy_align),
+        u32::from(g.ignore_legacy_align),
         g.min_aggregate_legacy_align,
         g.abstract_bool_size,
         g.abstract_bool_align,
@@ -144,54 +124,38 @@ fn put_setting(list: &mut [u32], g: LayoutConfig)
 }
 
 // Lists of these lengths hold a sheet of so many types and members.
+#[tactic(auto, unfolding(crate::specs::Reads::fits_by))]
 fn fits(setting: usize, types: usize, members: usize, given: usize, ts: u32, ms: u32) -> bool
     ensures { result ≡ fits_by setting types members given ts ms }
 {
-    if setting < 6 {
-        return false;
-    }
-    if types < 6 * ts as usize {
-        return false;
-    }
-    if members < ms as usize {
-        return false;
-    }
-    ms as usize <= given
+    6 <= setting && 6 * ts as usize <= types && ms as usize <= members && ms as usize <= given
 }
 
-// Reads a sheet into the lists. Where it is refused, every list is as it was.
+// Reads a sheet into the lists, and says how many types there are. Where it is refused, every list is as it was.
 pub fn read_sheet(
     sheet: &[u8],
     setting: &mut [u32],
     types: &mut [u32],
     members: &mut [u32],
     given: &mut [u32],
-) -> SheetAnswer
+) -> Result<u32, Refusal>
     ensures { ReadsInto sheet.now result setting.old types.old members.old given.old setting.new types.new members.new given.new }
 {
     if 65536 < sheet.len() {
-        return SheetAnswer::Refused(2);
+        return Err(Refusal::OVERSIZE);
     }
-    match pass(sheet, types, members, given, false) {
-        End::Refused(n) => SheetAnswer::Refused(n),
-        End::Done {
-            setting: g,
-            types: ts,
-            members: ms,
-        } => {
-            if !fits(
-                setting.len(),
-                types.len(),
-                members.len(),
-                given.len(),
-                ts,
-                ms,
-            ) {
-                return SheetAnswer::Refused(24);
-            }
-            pass(sheet, types, members, given, true);
-            put_setting(setting, g);
-            SheetAnswer::Types(ts)
-        }
+    let counts = pass(sheet, types, members, given, false)?;
+    if !fits(
+        setting.len(),
+        types.len(),
+        members.len(),
+        given.len(),
+        counts.types,
+        counts.members,
+    ) {
+        return Err(Refusal::SHORT_LIST);
     }
+    pass(sheet, types, members, given, true)?;
+    put_setting(setting, counts.setting);
+    Ok(counts.types)
 }

@@ -1,20 +1,19 @@
 -- `reading::pass` meets its contract.
-use native.Mathlib.Omega.{arith}
-use mathlib.Core.Path.{sym, ◌∙◌}
-use Rattle.reading.proofs.Reached.{at_once, no_line, first_refused, first_read}
+use Rattle.std.proofs.Common.{rules, ◌≡◌, sym, Err}
+use Rattle.arith.specs.Refusals.{misread}
+use Rattle.arith.specs.InCode.{err}
+use Rattle.reading.proofs.Reached.{at_once, no_first, first_refused, first_read}
 use Rattle.reading.proofs.pass.Goals as goal
 
-pub returns-then-e-s : goal.returns-then-e-s
-returns-then-e-s c = at_once _ _ _ (no_line c.piece_end-e.ensures c.if-e-s.true)
+pub returns-in_err-line : goal.returns-in_err-line
+returns-in_err-line c =
+    let e : c.from_residual.result ≡ err misread = search rules in
+    rw e (at_once _ _ _ (no_first _ (rw c.in_err-line.ensures.ok_part at c.line_at.ensures)))
 
-pub overflow_add-at : goal.overflow_add-at
-overflow_add-at c = omega (arith, c.piece_end-e.ensures.within, c.requires)
+pub returns-in_err-first : goal.returns-in_err-first
+returns-in_err-first c =
+    let e : c.from_residual-in_err-first.result ≡ Err c.in_err-first.field-0.0 = search rules in
+    rw e (at_once _ _ _ (first_refused (rw c.in_ok-line.ensures.ok_part at c.line_at.ensures) _ c.read_line.ensures (sym c.in_err-first.ensures)))
 
-pub rest-requires : goal.rest-requires
-rest-requires c = (c.requires, omega (arith, c.piece_end-e.ensures.within, c.if-e-s.false))
-
-pub returns-in-Refused : goal.returns-in-Refused
-returns-in-Refused c = at_once _ _ _ (first_refused c.piece_end-e.ensures c.if-e-s.false _ c.read_line.ensures (sym c.judge_first.ensures ∙ c.in-Refused.is))
-
-pub returns-in-Next : goal.returns-in-Next
-returns-in-Next c = rw (first_read c.piece_end-e.ensures c.if-e-s.false _ c.read_line.ensures (sym c.judge_first.ensures ∙ c.in-Next.is)) c.rest.ensures
+pub returns : goal.returns
+returns c = rw (first_read (rw c.in_ok-line.ensures.ok_part at c.line_at.ensures) _ c.read_line.ensures (sym c.in_ok-first.ensures)) c.rest.ensures
