@@ -3,7 +3,7 @@ use Rattle.std.proofs.Common.{◌-◌, ◌≤◌, length}
 use Rattle.tables.proofs.fold_questions.Given as goal
 
 abbrev pub invariant-loop-ask : goal.invariant-loop-ask
-invariant-loop-ask l = (l.count ≤ l.at) × (l.at ≤ length l.sheet)
+invariant-loop-ask l = (l.asked.count ≤ l.at) × (l.at ≤ length l.sheet)
 
 abbrev pub decreases-loop-ask : goal.decreases-loop-ask
 decreases-loop-ask l = length l.sheet - l.at
