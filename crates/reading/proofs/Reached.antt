@@ -14,7 +14,6 @@ use Rattle.std.specs.Prelude as std
 use Rattle.arith.specs.InCode.{OrRefusal, err}
 use Rattle.arith.proofs.Results.{value_is, number_is, never, not_both}
 use Rattle.decimal.specs.Text.{split}
-use Rattle.shapes.specs.declared.LayoutConfig.{LayoutConfig}
 use Rattle.sheet.specs.Grammar.{Line, Setting, read_line}
 use Rattle.sheet.specs.Sheet.{Sheet, next_line, first_line, formed, finished, read_lines, read_pieces}
 use Rattle.sheet.specs.Tables.{types_words, members_words, offsets_words}
@@ -24,9 +23,9 @@ use Rattle.lines.specs.declared.SheetLine.{SheetLine}
 use Rattle.lines.specs.declared.SheetLine.TheVariants as says
 use Rattle.lines.specs.Says.{Says}
 use Rattle.tally.specs.declared.Tally.{Tally}
-use Rattle.tally.specs.Counts.{read_in, Small, judged, judged_first, start_tally}
+use Rattle.tally.specs.Counts.{read_in, Small, judged, judged_first}
 use Rattle.tally.proofs.Went.{Matches}
-use Rattle.tally.proofs.Steps.{next_line_lem, line_stops, reads_more, few_declared, some_type, start_matches, first_went, first_stops}
+use Rattle.tally.proofs.Steps.{next_line_lem, line_stops, reads_more, few_declared, some_type, first_went, first_stops}
 use Rattle.reading.specs.declared.Counts.{Counts}
 use Rattle.puts.specs.Puts.{Untouched, Filled, declared_count, Putable, Wrote}
 use Rattle.reading.specs.Reads.{empty_sheet, end_of, finished_by, Passed}
@@ -74,19 +73,6 @@ pub record Reached (s : List ℕ) (write : Bool) (o : Result Sheet) (ty₀ me₀
   pub left : o ≡ read_lines sheet previous (split 10 (drop at s))
   pub untouched : write ≡ false → Untouched ty₀ me₀ gi₀ ty me gi
   pub filled : write ≡ true → Filled sheet.types ty₀ me₀ gi₀ ty me gi
-
-pub reached_none : (s : List ℕ) (write : Bool) (from : ℕ) (g : LayoutConfig) (ty me gi : List ℕ) {t : Tally} → from ≤ length s → t ≡ start_tally g
-    → Reached s write (read_lines (empty_sheet g) (Setting g) (split 10 (drop from s))) ty me gi from t ty me gi
-reached_none s write from g ty me gi {t} h e = record {
-  sheet = empty_sheet g;
-  previous = Setting g;
-  matches = rw e (start_matches g);
-  within = h;
-  few = rw e (omega arith);
-  left = refl;
-  untouched = λ w. record { types = refl; members = refl; given = refl };
-  filled = λ w. record { types = refl; members = refl; given = refl };
-}
 
 -- the counts that a pass tells
 abbrev counts : Tally → Counts

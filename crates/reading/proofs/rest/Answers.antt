@@ -1,10 +1,7 @@
 -- `reading::rest` meets its contract.
 use Rattle.std.proofs.Common.{rules, ◌≡◌, sym, Err}
-use Rattle.reading.proofs.Reached.{reached_none, putable, stopped, ended, refusal, onward}
+use Rattle.reading.proofs.Reached.{putable, stopped, ended, refusal, onward}
 use Rattle.reading.proofs.rest.Goals as goal
-
-pub loop-line-init : goal.loop-line-init
-loop-line-init c = reached_none _ _ _ _ _ _ _ c.requires.1 c.start-t.ensures
 
 pub returns-in_err-next : goal.returns-in_err-next
 returns-in_err-next c = let e : c.from_residual.result ≡ Err c.in_err-next.field-0.0 = search rules in rw e (stopped c.loop-line.invariant (refusal c.loop-line.invariant c.in-Some.ensures _ c.read_line-l.ensures (sym c.in_err-next.ensures)))
