@@ -11,7 +11,6 @@ use Rattle.shapes.specs.declared.LayoutConfig.{LayoutConfig}
 use Rattle.shapes.specs.Settings.{setting_of}
 use Rattle.sheet.specs.Sheet.{Sheet}
 use Rattle.sheet.specs.Tables.{over, setting_words}
-use Rattle.reading.specs.declared.SheetAnswer.TheVariants.{Types}
 use Rattle.reading.specs.Reads.{words_in}
 use Rattle.records.specs.Records.{filling}
 use Rattle.lower.specs.declared.QPtrOp.{QPtrOp}
@@ -19,7 +18,7 @@ use Rattle.lower.specs.Chain.{lower_chain, chain_in_room}
 use Rattle.lower.proofs.Neighbours.{no_neighbours}
 use Rattle.lower.proofs.StepsFit.{steps_fit}
 use Rattle.steps.specs.Stored.{StoredAt}
-use Rattle.moves.specs.declared.Walk.TheVariants.{Steps}
+use Rattle.std.specs.Prelude.{Ok}
 use Rattle.moves.specs.Moves.{indices_in}
 use Rattle.moves.specs.Written.{Wrote}
 use Rattle.pointers.specs.OverTables.{chain_over}
@@ -61,7 +60,7 @@ module _ (input : List ℕ) (op : ChainOp) (ptr : ℕ) (chain : List ℕ) (c : C
       ∙ ap (λ (g : LayoutConfig). filling g c.types c.members c.given c.offsets₀ c.layouts₀ c.n) same_setting
       ∙ ap (filling s.setting c.types c.members c.given c.offsets₀ c.layouts₀) r.types in
       let made = was_made s.setting c.types c.members c.given c.offsets₀ c.layouts₀ c.offsets c.layouts n filled in
-      let tables = tables_of_reading input s (Types c.n) c.setting₀ c.types₀ c.members₀ c.given₀ c.setting c.types c.members c.given c.read r.into_lists (length c.offsets₀) (omega (arith, r.members, c.places)) in
+      let tables = tables_of_reading input s (Ok c.n) c.setting₀ c.types₀ c.members₀ c.given₀ c.setting c.types c.members c.given c.read r.into_lists (length c.offsets₀) (omega (arith, r.members, c.places)) in
       ap (λ (g : LayoutConfig). chain_over (room_in c) g c.n c.types c.layouts c.offsets c.members op ptr chain) same_setting
       ∙ ap (λ (k : ℕ). chain_over (room_in c) s.setting k c.types c.layouts c.offsets c.members op ptr chain) r.types
       ∙ ap (λ (rows : List ℕ). chain_over (room_in c) s.setting n c.types rows c.offsets c.members op ptr chain) made.as_layouts
@@ -72,7 +71,7 @@ module _ (input : List ℕ) (op : ChainOp) (ptr : ℕ) (chain : List ℕ) (c : C
       → Wrote 0 (chain_in_room (room_in c) s op ptr (indices_in chain)) c.answer c.kinds₀ c.bytes₀ c.bounds₀ c.marks₀ c.indices₀ c.kinds c.bytes c.bounds c.marks c.indices
   answered few = rw (sym (same few)) c.lowered
 
-  module _ (count : ℕ) (e : c.answer ≡ Steps count) where
+  module _ (count : ℕ) (e : c.answer ≡ Ok count) where
     few : length chain ≤ 510
     few = few_indices (room_in c) (setting_of c.setting) c.n c.types c.layouts c.offsets c.members op ptr chain count (sym e ∙ c.lowered.says)
 

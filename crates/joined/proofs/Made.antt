@@ -16,10 +16,9 @@ use Rattle.shapes.specs.Settings.{setting_of}
 use Rattle.shapes.specs.Rows.{flat}
 use Rattle.sheet.specs.Sheet.{Sheet, read_sheet, member_count}
 use Rattle.sheet.specs.Tables.{setting_words, room_for, held}
-use Rattle.reading.specs.declared.SheetAnswer.TheVariants as reading
 use Rattle.reading.specs.Reads.{told, into}
-use Rattle.records.specs.declared.Filling.{Filling}
-use Rattle.records.specs.declared.Filling.TheVariants.{Filled, Short}
+use Rattle.std.specs.Prelude.{Ok}
+use Rattle.arith.specs.InCode.{OrRefusal, err}
 use Rattle.records.specs.Records.{records, filling}
 
 -- ---- the sheet that was read
@@ -31,7 +30,7 @@ pub record Read (input se ty me gi : List ℕ) (n : ℕ) : Type 0 where
   pub types : n ≡ length sheet.types
   pub members : member_count sheet.types ≤ length me
 
-pub was_read : (input se ty me gi : List ℕ) (n : ℕ) → reading.Types n ≡ told (into input se ty me gi) → Read input se ty me gi n
+pub was_read : (input se ty me gi : List ℕ) (n : ℕ) → Ok n ≡ told (into input se ty me gi) → Read input se ty me gi n
 unfolding held room_for
 was_read input se ty me gi n h = by (into input se ty me gi) refl h
   where
@@ -39,7 +38,7 @@ was_read input se ty me gi n h = by (into input se ty me gi) refl h
     third : (a b c d : Bool) → a && (b && (c && d)) ≡ true → c ≡ true
     third a b c d e = first_true c d (second_true b (c && d) (second_true a (b && (c && d)) e))
 
-    by : (r : Result Sheet) → into input se ty me gi ≡ r → reading.Types n ≡ told r → Read input se ty me gi n
+    by : (r : Result Sheet) → into input se ty me gi ≡ r → Ok n ≡ told r → Read input se ty me gi n
     by (refused e) i t = absurd (let z : ◌≡◌ {A = ℕ} 0 1 = cc in omega arith)
     by (ok s) i t =
         let w = went (read_sheet input) _ i in
@@ -78,15 +77,15 @@ pub record Made (cfg : LayoutConfig) (types members given offsets₀ layouts₀ 
   pub as_offsets : offsets ≡ (records cfg types members given offsets₀ n).1
   pub as_layouts : layouts ≡ flat (records cfg types members given offsets₀ n).0 ++ drop (10 * n) layouts₀
 
-pub was_made : (cfg : LayoutConfig) (types members given offsets₀ layouts₀ offsets layouts : List ℕ) (n : ℕ) → both Filled (both offsets layouts) ≡ filling cfg types members given offsets₀ layouts₀ n
+pub was_made : (cfg : LayoutConfig) (types members given offsets₀ layouts₀ offsets layouts : List ℕ) (n : ℕ) → both (Ok tt) (both offsets layouts) ≡ filling cfg types members given offsets₀ layouts₀ n
     → Made cfg types members given offsets₀ layouts₀ offsets layouts n
 unfolding filling
 was_made cfg types members given offsets₀ layouts₀ offsets layouts n h = by (ltb (length layouts₀) (10 * n)) h
   where
-    by : (b : Bool) → both Filled (both offsets layouts) ≡ cond b (both Short (both offsets₀ layouts₀)) (both Filled (both (records cfg types members given offsets₀ n).1 (flat (records cfg types members given offsets₀ n).0 ++ drop (10 * n) layouts₀)))
+    by : (b : Bool) → both (Ok (tt {0})) (both offsets layouts) ≡ cond b (both (err short_list) (both offsets₀ layouts₀)) (both (Ok (tt {0})) (both (records cfg types members given offsets₀ n).1 (flat (records cfg types members given offsets₀ n).0 ++ drop (10 * n) layouts₀)))
         → Made cfg types members given offsets₀ layouts₀ offsets layouts n
-    by true e = absurd (let k : ◌≡◌ {A = Filling} Filled Short = ap (λ (p : Filling × (List ℕ × List ℕ)). p.0) e in let z : ◌≡◌ {A = ℕ} 0 1 = cc in omega arith)
+    by true e = absurd (let k : ◌≡◌ {A = OrRefusal (Unit {0})} (Ok tt) (err short_list) = ap (λ (p : OrRefusal (Unit {0}) × (List ℕ × List ℕ)). p.0) e in let z : ◌≡◌ {A = ℕ} 0 1 = cc in omega arith)
     by false e = record {
-      as_offsets = ap (λ (p : Filling × (List ℕ × List ℕ)). p.1.0) e;
-      as_layouts = ap (λ (p : Filling × (List ℕ × List ℕ)). p.1.1) e;
+      as_offsets = ap (λ (p : OrRefusal (Unit {0}) × (List ℕ × List ℕ)). p.1.0) e;
+      as_layouts = ap (λ (p : OrRefusal (Unit {0}) × (List ℕ × List ℕ)). p.1.1) e;
     }

@@ -12,8 +12,8 @@ use Rattle.shapes.specs.declared.Components.TheVariants.{Scalar, Elements, Field
 use Rattle.shapes.specs.declared.Handle.TheVariants.{Opaque, Buffer}
 use Rattle.shapes.specs.declared.TypeLayout.{TypeLayout}
 use Rattle.shapes.specs.declared.TypeLayout.TheVariants.{Handle, HandleArray, Concrete}
-use Rattle.shapes.specs.declared.Answer.{Answer}
-use Rattle.shapes.specs.declared.Answer.TheVariants.{Laid, Refused}
+use Rattle.std.specs.Prelude.{Ok, Err}
+use Rattle.arith.specs.InCode.{OrRefusal, err}
 use Rattle.shapes.specs.Rows.{answer_at, flat}
 use Rattle.shapes.specs.Spans.{answer_over, layout_by, parts_by, spans_of}
 use Rattle.layout.specs.Layouts.{offset_count, layout_in_room}
@@ -36,12 +36,12 @@ module _ (offsets members : List ℕ) where
   shown_count (HandleArray (Buffer m) len) = of_parts m.components
   shown_count (Concrete m) = of_parts m.components
 
-  held : (room : ℕ) (a : Answer) → answer_over offsets members (held_in room offsets a) ≡ in_room room offset_count (answer_over offsets members a)
+  held : (room : ℕ) (a : OrRefusal TypeLayout) → answer_over offsets members (held_in room offsets a) ≡ in_room room offset_count (answer_over offsets members a)
   unfolding held_in in_room ◌>>=◌ ◌>>◌ refuse◌when◌
-  held room (Refused e) = refl
-  held room (Laid l) = ap (λ (k : ℕ). answer_over offsets members (cond (ltb room k) (Refused short_list) (Laid l))) (shown_count l) ∙ by (ltb room (offset_count (layout_by (spans_of offsets members) l)))
+  held room (Err e) = refl
+  held room (Ok l) = ap (λ (k : ℕ). answer_over offsets members (cond (ltb room k) (err short_list) (Ok l))) (shown_count l) ∙ by (ltb room (offset_count (layout_by (spans_of offsets members) l)))
     where
-      by : (b : Bool) → answer_over offsets members (cond b (Refused short_list) (Laid l)) ≡ ((refuse short_list when b) >> ok (layout_by (spans_of offsets members) l))
+      by : (b : Bool) → answer_over offsets members (cond b (err short_list) (Ok l)) ≡ ((refuse short_list when b) >> ok (layout_by (spans_of offsets members) l))
       by true = refl
       by false = refl
 

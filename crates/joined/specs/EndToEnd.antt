@@ -1,23 +1,20 @@
 -- Document 01, the third demand, from a sheet's bytes to the words in the caller's lists: `end_to_end`.
-use Rattle.std.specs.Prelude.{ℕ, ◌≤◌, ◌≡◌, false, List, length}
+use Rattle.std.specs.Prelude.{ℕ, ◌≤◌, ◌≡◌, false, List, length, Ok}
 use Rattle.std.proofs.Math.Option.{some}
 use Rattle.arith.specs.Refusals.{ok}
+use Rattle.arith.specs.InCode.{OrRefusal}
 use Rattle.arith.specs.Pairs.{both}
 use Rattle.spirv.specs.declared.ChainOp.{ChainOp}
 use Rattle.spirv.specs.declared.Index.{Index}
 use Rattle.shapes.specs.Shapes.{MemTypeLayout, dyn_of}
 use Rattle.shapes.specs.Settings.{setting_of}
 use Rattle.sheet.specs.Sheet.{Sheet, read_sheet}
-use Rattle.reading.specs.declared.SheetAnswer.TheVariants.{Types}
 use Rattle.reading.specs.Reads.{ReadsInto}
-use Rattle.records.specs.declared.Filling.TheVariants.{Filled}
 use Rattle.records.specs.Records.{filling}
 use Rattle.lower.specs.declared.QPtrOp.{QPtrOp}
 use Rattle.lower.specs.Chain.{chain_in_room}
 use Rattle.lower.specs.Statements.{Accepted, neighbours}
 use Rattle.steps.specs.Lists.{steps_in}
-use Rattle.moves.specs.declared.Walk.{Walk}
-use Rattle.moves.specs.declared.Walk.TheVariants.{Steps}
 use Rattle.moves.specs.Moves.{indices_in}
 use Rattle.moves.specs.Written.{Wrote}
 use Rattle.chain.specs.Chains.{room_of}
@@ -40,13 +37,13 @@ pub record Calls (input : List ℕ) (op : ChainOp) (ptr : ℕ) (chain : List ℕ
   pub members : List ℕ
   pub given : List ℕ
   pub n : ℕ
-  pub read : ReadsInto input (Types n) setting₀ types₀ members₀ given₀ setting types members given
+  pub read : ReadsInto input (Ok n) setting₀ types₀ members₀ given₀ setting types members given
   -- `layouts` laid them out; the list of offsets is as long as that of members
   pub offsets₀ : List ℕ
   pub layouts₀ : List ℕ
   pub offsets : List ℕ
   pub layouts : List ℕ
-  pub filled : both Filled (both offsets layouts) ≡ filling (setting_of setting) types members given offsets₀ layouts₀ n
+  pub filled : both (Ok tt) (both offsets layouts) ≡ filling (setting_of setting) types members given offsets₀ layouts₀ n
   pub places : length members₀ ≤ length offsets₀
   -- `lower_access_chain` gave this answer
   pub kinds₀ : List ℕ
@@ -59,7 +56,7 @@ pub record Calls (input : List ℕ) (op : ChainOp) (ptr : ℕ) (chain : List ℕ
   pub bounds : List ℕ
   pub marks : List ℕ
   pub indices : List ℕ
-  pub answer : Walk
+  pub answer : OrRefusal ℕ
   pub lowered : Wrote 0 (chain_over (room_of kinds₀ bytes₀ bounds₀ marks₀ indices₀) (setting_of setting) n types layouts offsets members op ptr chain) answer kinds₀ bytes₀ bounds₀ marks₀ indices₀ kinds bytes bounds marks indices
 
 module _ {input : List ℕ} {op : ChainOp} {ptr : ℕ} {chain : List ℕ} (c : Calls input op ptr chain) where
@@ -90,8 +87,8 @@ pub record Carried (input : List ℕ) (op : ChainOp) (ptr : ℕ) (chain : List �
   pub types : c.n ≡ length sheet.types
   pub answered : length chain ≤ 510
       → Wrote 0 (chain_in_room (room_in c) sheet op ptr (indices_in chain)) c.answer c.kinds₀ c.bytes₀ c.bounds₀ c.marks₀ c.indices₀ c.kinds c.bytes c.bounds c.marks c.indices
-  pub count_is : (count : ℕ) → c.answer ≡ Steps count → length (steps_held c count) ≡ count
-  pub kept : (count : ℕ) → c.answer ≡ Steps count → Kept sheet op ptr (indices_in chain) (steps_held c count)
+  pub count_is : (count : ℕ) → c.answer ≡ Ok count → length (steps_held c count) ≡ count
+  pub kept : (count : ℕ) → c.answer ≡ Ok count → Kept sheet op ptr (indices_in chain) (steps_held c count)
 
 abbrev pub EndToEnd : Type 0
 EndToEnd = (input : List ℕ) (op : ChainOp) (ptr : ℕ) (chain : List ℕ) (c : Calls input op ptr chain) → Carried input op ptr chain c

@@ -3,12 +3,12 @@
 use Rattle.std.specs.Prelude.{ℕ, ◌≤◌, ◌≡◌, List, ◌++◌, length}
 use Rattle.std.proofs.Math.Option.{some}
 use Rattle.arith.specs.Refusals.{ok}
+use Rattle.arith.specs.InCode.{OrRefusal}
 use Rattle.spirv.specs.declared.ChainOp.{ChainOp}
 use Rattle.shapes.specs.Shapes as shapes
 use Rattle.shapes.specs.Rows.{answer_at, flat}
 use Rattle.shapes.specs.Spans.{answer_over}
 use Rattle.sheet.specs.Sheet.{Sheet, pointee_in, member_count}
-use Rattle.reading.specs.declared.SheetAnswer.{SheetAnswer}
 use Rattle.reading.specs.Reads.{ReadsInto, into}
 use Rattle.layout.specs.Layouts.{layout_in_room}
 use Rattle.values.specs.Values.{held_in}
@@ -26,7 +26,7 @@ use Rattle.promise.specs.Aligned.{Aligned}
 -- where a sheet is read into lent lists, these hold its types; there is room for offsets where each member has a place
 abbrev pub TablesOfReading : Type 0
 TablesOfReading =
-    (input : List ℕ) (s : Sheet) (r : SheetAnswer) (se ty me gi se' ty' me' gi' : List ℕ) → ReadsInto input r se ty me gi se' ty' me' gi' → into input se ty me gi ≡ ok s
+    (input : List ℕ) (s : Sheet) (r : OrRefusal ℕ) (se ty me gi se' ty' me' gi' : List ℕ) → ReadsInto input r se ty me gi se' ty' me' gi' → into input se ty me gi ≡ ok s
     → (room : ℕ) → member_count s.types ≤ room → Tables s.types ty' me' gi' room
 
 -- ---- T as values
