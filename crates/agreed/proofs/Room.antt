@@ -16,8 +16,9 @@ use Rattle.shapes.specs.Rows.{answer_at}
 use Rattle.shapes.specs.declared.Components.{Components}
 use Rattle.shapes.specs.declared.Components.TheVariants.{Scalar, Elements, Fields}
 use Rattle.shapes.specs.declared.TypeLayout.TheVariants as layout
-use Rattle.shapes.specs.declared.Answer as code
-use Rattle.shapes.specs.declared.Answer.TheVariants.{Laid, Refused}
+use Rattle.arith.specs.InCode.{OrRefusal}
+use Rattle.shapes.specs.declared.TypeLayout as code
+use Rattle.std.specs.Prelude.{Ok, Err}
 use Rattle.layout.specs.Arrays.{Answer}
 use Rattle.layout.specs.Lookup.{size_at_index, element_holding, field_holds, memory_passes, fields_holding, size_of_part, components_containing, in_memory_only, lookup_by}
 use Rattle.components.specs.Found.{answers_in, lookup_in}
@@ -69,12 +70,12 @@ found_few layouts n offsets members room one few t start end found h =
     let c = went _ _ l.rest in
     by (answer_at layouts n t) l.value l.here c.value c.here (value_is c.rest)
   where
-    by : (a : code.Answer) (l : def.TypeLayout) → answer_over offsets members a ≡ ok l → (c : def.Components) → in_memory_only l ≡ ok c
+    by : (a : OrRefusal code.TypeLayout) (l : def.TypeLayout) → answer_over offsets members a ≡ ok l → (c : def.Components) → in_memory_only l ≡ ok c
         → components_containing (answers_in layouts n offsets members) c start end ≡ found → length found ≤ room
-    by (Refused e) l g c i k = absurd (never g)
-    by (Laid (layout.Handle x)) l g c i k = absurd (never (ap in_memory_only (value_is g) ∙ i))
-    by (Laid (layout.HandleArray x y)) l g c i k = absurd (never (ap in_memory_only (value_is g) ∙ i))
-    by (Laid (layout.Concrete m)) l g c i k =
+    by (Err e) l g c i k = absurd (never g)
+    by (Ok (layout.Handle x)) l g c i k = absurd (never (ap in_memory_only (value_is g) ∙ i))
+    by (Ok (layout.HandleArray x y)) l g c i k = absurd (never (ap in_memory_only (value_is g) ∙ i))
+    by (Ok (layout.Concrete m)) l g c i k =
         let e : parts_by (spans_of offsets members) m.components ≡ c = value_is (ap in_memory_only (value_is g) ∙ i) in
         let f : length (components_containing (answers_in layouts n offsets members) c start end) ≤ room =
         rw e at (few_components (answers_in layouts n offsets members) offsets members room one few m.components start end) in
