@@ -44,7 +44,7 @@ pub enum SheetLine {
 
 // ---- all fields that are left
 
-// How many fields there are behind the one that ends at `at`, if `next` takes them all.
+// How many fields there are behind the one that ends at `at`, if `next` takes them all. An iterator over fields, here and below, would be a type with laws of its own, and is longer.
 fn count<T: Copy, F: Fn(usize) -> Option<Field<T>>>(
     line: &[u8],
     at: usize,
