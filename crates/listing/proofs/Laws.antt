@@ -15,8 +15,10 @@ use Rattle.sheet.specs.Sheet.{index_count, max_indices}
 use Rattle.lines.specs.declared.Ask.{Ask}
 use Rattle.lines.specs.Says.{count_of, question_of, index_words}
 use Rattle.lines.proofs.Indices.{question_count, index_words_length}
-use Rattle.asking.specs.declared.NextQuestion.{NextQuestion}
-use Rattle.asking.specs.declared.NextQuestion.TheVariants as next
+use Rattle.std.specs.Prelude.{Option, Some, None, Ok, Err}
+use Rattle.std.specs.Result.{result_unwrap_or}
+use Rattle.arith.specs.InCode.{OrRefusal}
+use Rattle.asking.specs.declared.Question as code
 use Rattle.asking.specs.Questions.{questions_from, Next, Short, Ended, Steps}
 use Rattle.moves.specs.Moves.{indices_in}
 use Rattle.answers.specs.Lines.{AnswerLine, Source, answer_by}
@@ -79,12 +81,23 @@ none_answerable x room s = rw (x.first, lt-leb (index_count x.question) max_indi
 
 -- ---- as the code says it
 
-module _ {sheet : List ℕ} {at : ℕ} {r : NextQuestion} {old new : List ℕ} (x : Steps sheet at r old new) where
-  pub asked : {a : Ask} {n : ℕ} → r ≡ next.Question a n → Next sheet at a n old new
-  asked e = subst (λ (y : NextQuestion). Steps sheet at y old new) e x
+abbrev Answered : Type 0
+Answered = OrRefusal (Option code.Question)
 
-  pub ended : r ≡ next.End → Ended sheet at old new
-  ended e = subst (λ (y : NextQuestion). Steps sheet at y old new) e x
+pub asked : (sheet : List ℕ) (at : ℕ) (old new : List ℕ) (r : Answered) {o : Option code.Question} {q : code.Question}
+    → Steps sheet at r old new → o ≡ result_unwrap_or r None → o ≡ Some q → Next sheet at q.ask q.next old new
+asked sheet at old new r x e f = by r x (sym e ∙ f)
+  where
+    by : (r : Answered) {q : code.Question} → Steps sheet at r old new → result_unwrap_or r None ≡ Some q → Next sheet at q.ask q.next old new
+    by (Ok (Some p)) {q} x f = let z : p ≡ q = cc in subst (λ (y : code.Question). Next sheet at y.ask y.next old new) z x
+    by (Ok None) x f = absurd (let z : ◌≡◌ {A = ℕ} 0 1 = cc in omega arith)
+    by (Err e) x f = absurd (let z : ◌≡◌ {A = ℕ} 0 1 = cc in omega arith)
 
-  pub was_short : r ≡ next.Short → Short sheet at old new
-  was_short e = subst (λ (y : NextQuestion). Steps sheet at y old new) e x
+pub not_asked : (sheet : List ℕ) (at : ℕ) (old new : List ℕ) (r : Answered) {o : Option code.Question}
+    → Steps sheet at r old new → o ≡ result_unwrap_or r None → o ≡ None → length old ≡ 510 → (s : Source) → lines_from s sheet at ≡ []
+not_asked sheet at old new r x e f room s = by r x (sym e ∙ f)
+  where
+    by : (r : Answered) → Steps sheet at r old new → result_unwrap_or r None ≡ None → lines_from s sheet at ≡ []
+    by (Ok (Some q)) x f = absurd (let z : ◌≡◌ {A = ℕ} 0 1 = cc in omega arith)
+    by (Ok None) x f = no_lines x s
+    by (Err e) x f = none_answerable x.1 room s
