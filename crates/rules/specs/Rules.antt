@@ -1,5 +1,5 @@
 -- What the code's numbers and array parameters say in the definitions' terms.
-use Rattle.std.specs.Prelude.{ℕ, ◌≡◌, Bool, true, false, cond, Option, Some, None}
+use Rattle.std.specs.Prelude.{ℕ, ◌≡◌, Option, Some, None}
 use Rattle.std.proofs.Math.Option as option
 use Rattle.arith.specs.Refusals.{Result}
 use Rattle.arith.specs.InCode.{OrRefusal, in_code}
@@ -14,6 +14,8 @@ use Rattle.shapes.specs.declared.Components.{Components}
 use Rattle.shapes.specs.declared.Components.TheVariants.{Scalar, Elements}
 use Rattle.layout.specs.Arrays as arrays
 use Rattle.rules.specs.declared.ArrayParams.{ArrayParams}
+use Rattle.rules.specs.declared.Legacy.{Legacy}
+use Rattle.rules.specs.declared.Legacy.TheVariants.{Vector, Aggregate}
 
 -- memory of these numbers, made of these parts
 abbrev pub with_parts : MaybeDynMemLayout → def.Components → def.MemTypeLayout
@@ -40,26 +42,30 @@ abbrev pub fixed_len_of : Option ℕ → option.Option ℕ
 fixed_len_of None = option.none
 fixed_len_of (Some n) = option.some n
 
--- only a vector asks for its length
+-- what legacy alignment goes by, as the definitions have it
+abbrev pub legacy_of : LayoutConfig → Legacy → ℕ → ℕ
+legacy_of cfg (Vector len) = arrays.vector_legacy len
+legacy_of cfg Aggregate = arrays.aggregate_legacy cfg
+
 abbrev pub params_of : LayoutConfig → ArrayParams → arrays.ArrayParams
 params_of cfg p = record {
   elem = p.elem;
   fixed_len = fixed_len_of p.fixed_len;
   stride = p.stride;
-  legacy = cond p.vector (arrays.vector_legacy (arrays.length_or_zero (fixed_len_of p.fixed_len))) (arrays.aggregate_legacy cfg);
+  legacy = legacy_of cfg p.legacy;
 }
 
-abbrev pub params : (elem : ℕ) (fixed_len : Option ℕ) (stride : Stride) (vector : Bool) → ArrayParams
-params elem fixed_len stride vector = record { elem = elem; fixed_len = fixed_len; stride = stride; vector = vector }
+abbrev pub params : (elem : ℕ) (fixed_len : Option ℕ) (stride : Stride) (legacy : Legacy) → ArrayParams
+params elem fixed_len stride legacy = record { elem = elem; fixed_len = fixed_len; stride = stride; legacy = legacy }
 
 abbrev pub of_vector : (elem len : ℕ) → ArrayParams
-of_vector elem len = params elem (Some len) Undecorated true
+of_vector elem len = params elem (Some len) Undecorated (Vector len)
 
 abbrev pub of_fixed : (elem len : ℕ) → Stride → ArrayParams
-of_fixed elem len stride = params elem (Some len) stride false
+of_fixed elem len stride = params elem (Some len) stride Aggregate
 
 abbrev pub of_runtime : (elem : ℕ) → Stride → ArrayParams
-of_runtime elem stride = params elem None stride false
+of_runtime elem stride = params elem None stride Aggregate
 
 abbrev pub elements_of : ArrayParams → (size align legacy stride : ℕ) → TypeLayout
 elements_of p size align legacy stride =

@@ -61,13 +61,20 @@ pub fn round_both(cfg: LayoutConfig, size: u32, mem: MaybeDynMemLayout) -> Resul
 
 // ---- vector, matrix and arrays
 
+// What legacy alignment goes by: a vector's length, or the setting.
+#[derive(Clone, Copy, Debug, PartialEq, Eq, Hash)]
+pub enum Legacy {
+    Vector(u32),
+    Aggregate,
+}
+
 // What tells them apart. A runtime array has no length.
 #[derive(Clone, Copy, Debug, PartialEq, Eq, Hash)]
 pub struct ArrayParams {
     pub elem: u32,
     pub fixed_len: Option<u32>,
     pub stride: Stride,
-    pub vector: bool,
+    pub legacy: Legacy,
 }
 
 pub fn vector_params(elem: u32, len: u32) -> ArrayParams
@@ -77,7 +84,7 @@ pub fn vector_params(elem: u32, len: u32) -> ArrayParams
         elem,
         fixed_len: Some(len),
         stride: Stride::Undecorated,
-        vector: true,
+        legacy: Legacy::Vector(len),
     }
 }
 
@@ -88,7 +95,7 @@ pub fn fixed_params(elem: u32, len: u32, stride: Stride) -> ArrayParams
         elem,
         fixed_len: Some(len),
         stride,
-        vector: false,
+        legacy: Legacy::Aggregate,
     }
 }
 
@@ -99,7 +106,7 @@ pub fn runtime_params(elem: u32, stride: Stride) -> ArrayParams
         elem,
         fixed_len: None,
         stride,
-        vector: false,
+        legacy: Legacy::Aggregate,
     }
 }
 
@@ -119,11 +126,9 @@ pub fn stride_of(cfg: LayoutConfig, stride: Stride, mem: MaybeDynMemLayout) -> R
 fn legacy_align(cfg: LayoutConfig, p: ArrayParams, legacy: u32) -> Result<u32, Refusal>
     ensures { result ≡ in_code (fit ((params_of cfg p).legacy legacy)) }
 {
-    if p.vector {
-        let times = if p.fixed_len.unwrap_or(0) <= 2 { 2 } else { 4 };
-        arith::product(times, legacy)
-    } else {
-        Ok(legacy.max(cfg.min_aggregate_legacy_align))
+    match p.legacy {
+        Legacy::Vector(len) => arith::product(if len <= 2 { 2 } else { 4 }, legacy),
+        Legacy::Aggregate => Ok(legacy.max(cfg.min_aggregate_legacy_align)),
     }
 }
 
