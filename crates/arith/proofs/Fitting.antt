@@ -26,6 +26,11 @@ pub fit_or : (n : ℕ) (o : Option ℕ) → SomeIff o (n < 2 ^ 32) n → ok_or o
 fit_or n None h = fit_over (omega arith)
 fit_or n (Some m) h = rw h.1 (fit_fits (omega (arith, h.0)))
 
+-- a condition that is met falls away
+pub met : (P Q : Type 0) (o : Option ℕ) (v : ℕ) → P → SomeIff o (P × Q) v → SomeIff o Q v
+met P Q None v p h = λ q. h (p, q)
+met P Q (Some x) v p h = (h.0.1, h.1)
+
 pub round_zero : (n : ℕ) → round_up n 0 ≡ n
 unfolding round_up
 round_zero n = rw (mod-zero (0 - n % 0)) (omega arith)
