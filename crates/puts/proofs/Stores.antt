@@ -2,13 +2,12 @@
 use Prim.Native.Nat.{ℕ, zero, suc, ◌+◌, ◌-◌, ◌<◌, min}
 use borrow.Rule.Slice.PartMut.{put_mid}
 use Rattle.std.proofs.lemmas.List.{take-replicate}
-use Rattle.spirv.proofs.Words.{part_put}
 use native.Mathlib.Omega.{arith}
 use mathlib.Core.Path.{◌≡◌, refl, sym, ◌∙◌}
 use mathlib.Core.List.{List, [], ◌∷◌, ◌++◌}
 use lib.ListN.{length, set, take, replicate, length-replicate}
 use lib.Seq.{sets, set-set}
-use Rattle.arith.proofs.Stores.{sets_append, set_before}
+use Rattle.arith.proofs.Stores.{sets_append, set_before, part_put}
 
 -- the same places again
 pub sets_again : (vs ws l : List ℕ) (i : ℕ) → length vs ≡ length ws → sets (sets l i vs) i ws ≡ sets l i ws

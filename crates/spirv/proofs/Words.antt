@@ -1,19 +1,14 @@
--- Laws of words stored in a list, and of lists of words that are the same. Assumes nothing.
+-- Laws of lists of words that are the same. Assumes nothing.
 use Prim.Native.Nat.{min, ℕ, suc, ◌+◌, ◌-◌, ◌≤◌, ◌<◌}
 use native.Mathlib.Omega.{arith}
-use native.Mathlib.Numerals.{add-one}
-use mathlib.Core.Path.{◌≡◌, refl, sym, ap}
+use mathlib.Core.Path.{◌≡◌, refl, ap}
 use mathlib.Core.Bool.{Bool, true, false, ◌&&◌}
-use mathlib.Core.List.{List, [], ◌∷◌, append_assoc}
+use mathlib.Core.List.{List, [], ◌∷◌}
 use borrow.Author.Tests.{eq-eqb, eqb-true}
 use lib.Dec.{eqb}
 use lib.Pointwise.{pointwise}
-use lib.ListN.{length, get_or, take, drop, set, length-set, length-take, length-drop}
-use lib.Seq.{sets, sets-eq, take-suc, take_all, length-take-le, drop-drop}
-use borrow.Rule.Slice.PartMut.{put_mid}
+use lib.ListN.{length, take, drop, length-take, length-drop}
 use mathlib.Core.Logic.{◌⊎◌, inl, inr}
-use Rattle.std.proofs.lemmas.Bool.{cases_lt}
-use Rattle.arith.proofs.Stores.{sets_append, sets_past}
 use Rattle.arith.proofs.Results.{first_true, second_true}
 use mir.Val.{bool_byte}
 use Rattle.spirv.specs.Rows.{same_words, flag_word}
@@ -22,33 +17,6 @@ use Rattle.spirv.specs.Rows.{same_words, flag_word}
 pub flag_word-is : (b : Bool) → bool_byte b ≡ flag_word b
 flag_word-is false = refl
 flag_word-is true = refl
-
--- ---- stores
-
--- one more store, of the word that stands at i
-pub one_more : (l : List ℕ) (at : ℕ) (w : List ℕ) (i d : ℕ) → i < length w → set (sets l at (take i w)) (at + i) (get_or w i d) ≡ sets l at (take (i + 1) w)
-one_more l at w i d h =
-    rw (add-one, take-suc w i d h, sets_append l at (take i w) (get_or w i d ∷ []), length-take-le i w (omega arith))
-
--- where i words reach the end, the rest is left out
-pub rest_out : (l : List ℕ) (at : ℕ) (w : List ℕ) (i : ℕ) → i ≤ length w → length l ≤ at + i → sets l at (take i w) ≡ sets l at w
-rest_out l at [] i h k = let e : i ≡ 0 = omega arith in rw e
-rest_out l at (v ∷ w) Prim.Native.Nat.zero h k = sym (sets_past l at (v ∷ w) (omega arith))
-rest_out l at (v ∷ w) (suc i) h k = rest_out (set l at v) (suc at) w i (omega arith) (rw (length-set l at v) (omega arith))
-
--- as many words as there is room for are stored, and so all
-pub room_filled : (l : List ℕ) (at n : ℕ) (w : List ℕ) → n ≡ min (length w) (length l - at) → sets l at (take n w) ≡ sets l at w
-room_filled l at n w m = go (cases_lt n (length w))
-  where
-    go : (n < length w) ⊎ (length w ≤ n) → sets l at (take n w) ≡ sets l at w
-    go (inl s) = rest_out l at w n (omega arith) (omega arith)
-    go (inr s) = rw (take_all n w s)
-
--- in the place of those that stood there
-pub part_put : (l : List ℕ) (at n k : ℕ) (w : List ℕ) → k ≡ n → n ≡ min (length w) (length l - at) → at < length l → put_mid at k l (take n w) ≡ sets l at w
-part_put l at n k w e m h =
-    let t : length (take n w) ≡ n = length-take-le n w (omega arith) in
-    rw (e, drop-drop n at l, ← room_filled l at n w m) (rw (sets-eq (take n w) l at (omega arith), t, append_assoc))
 
 -- ---- the same words
 

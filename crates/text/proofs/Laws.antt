@@ -1,13 +1,12 @@
 -- Laws of `Printed`. Assumes nothing.
 use Prim.Native.Nat.{ℕ, ◌+◌, ◌<◌, ◌≤◌}
 use native.Mathlib.Omega.{arith}
-use native.Mathlib.Numerals.{add-one}
 use mathlib.Core.Path.{◌≡◌, refl, sym, ap, ◌∙◌}
 use mathlib.Core.Bool.{Bool, true, false}
-use mathlib.Core.List.{List, [], ◌∷◌, ◌++◌}
+use mathlib.Core.List.{List, [], ◌++◌}
 use lib.Dec.{leb}
-use lib.ListN.{length, take, drop, get_or, length-append}
-use lib.Seq.{sets, sets-eq, length-sets, take-suc, slice, take_at, drop_at, length-take-le}
+use lib.ListN.{length, take, drop, length-append}
+use lib.Seq.{sets, sets-eq, length-sets, slice, take_at, drop_at, length-take-le}
 use borrow.Author.Tests.{leb-true, leb-false}
 use Rattle.arith.proofs.Stores.{sets_append, sets_past}
 use Rattle.text.specs.Printed.{Printed, after}
@@ -48,11 +47,6 @@ in_place text {o} {n} {at} {p} x h small =
     rw (e, fitted text x h)
     (ap (drop at) (take_at (take at o ++ text) (drop (at + length text) o) (at + length text) size)
     ∙ drop_at (take at o) text at front)
-
--- the first i + 1 bytes of a text
-pub more : (s : List ℕ) (i : ℕ) {o m n : List ℕ} {at p q : ℕ} → i < length s → length o < 18446744073709551616
-    → Printed (take i s) o at p m → Printed (get_or s i 0 ∷ []) m p q n → Printed (take (i + 1) s) o at q n
-more s i {o} {m} {n} {at} {p} {q} h small x y = rw (add-one, take-suc s i 0 h) (then (take i s) (get_or s i 0 ∷ []) small x y)
 
 -- no room holds nothing
 pub nothing : (text : List ℕ) {m : List ℕ} {n : ℕ} → Printed text [] 0 n m → m ≡ []

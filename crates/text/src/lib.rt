@@ -5,6 +5,8 @@
 ghost use Rattle.std.specs.Prelude.{[], ◌∷◌};
 ghost use Rattle.text.specs.Printed.{Printed};
 
+use arith::lists;
+
 // One byte.
 pub fn byte(out: &mut [u8], at: usize, b: u8) -> usize
     ensures { Printed (b ∷ []) out.old at result out.new }
@@ -20,9 +22,6 @@ pub fn byte(out: &mut [u8], at: usize, b: u8) -> usize
 pub fn bytes(out: &mut [u8], at: usize, s: &[u8]) -> usize
     ensures { Printed s.now out.old at result out.new }
 {
-    let mut p = at;
-    for b in s {
-        p = byte(out, p, *b);
-    }
-    p
+    lists::put(out, at, s);
+    at.saturating_add(s.len())
 }

@@ -7,7 +7,7 @@ use lib.ListN.{length, get_or, set, take, drop}
 use lib.Seq.{sets, get_or-drop}
 use mir.Syntax.{w32}
 use Rattle.std.specs.Int.{to_le_bytes, from_le_bytes}
-use Rattle.spirv.proofs.Words.{one_more, room_filled}
+use Rattle.arith.proofs.Stores.{one_more, room_filled}
 use Rattle.words.specs.Little.{little, joined, word_at, words_from, words_of}
 
 pub words_length : (n : ℕ) (s : List ℕ) → length (words_from n s) ≡ n
