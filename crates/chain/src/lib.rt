@@ -39,7 +39,7 @@ fn go_on(
     let mut q = p;
     for (k, index) in chain[from..].chunks_exact(2).enumerate() {
         let at = from + 2 * k;
-        let i = moves::index_of(index[0], index[1]);
+        let i = spirv::index_of(index[0], index[1]);
         match moves::next_move(layouts, u, i, q)? {
             Move::Onward(v, w) => {
                 u = v;

@@ -5,7 +5,7 @@ ghost use Rattle.std.specs.Prelude.{◌≡◌, ◌≤◌, [], Ok};
 ghost use Rattle.arith.specs.Refusals.{ok};
 ghost use Rattle.shapes.specs.Rows.{answer_at};
 ghost use Rattle.lower.specs.Steps.{flush, merged};
-ghost use Rattle.moves.specs.Moves.{index_of, onward, to_element, arrived, field_by, field_way, part_way, way_of, move_of};
+ghost use Rattle.moves.specs.Moves.{onward, to_element, arrived, field_by, field_way, part_way, way_of, move_of};
 ghost use Rattle.moves.specs.Written.{Wrote, Prefixed, in_room_behind, after_of};
 
 use arith::refusal::Refusal;
@@ -39,16 +39,6 @@ pub enum Move {
 }
 
 // ---- one index
-
-pub fn index_of(word: u32, kind: u32) -> Index
-    ensures { result ≡ index_of word kind }
-{
-    if kind == 0 {
-        Index::Known(word)
-    } else {
-        Index::Unknown(word)
-    }
-}
 
 // On to a place by an offset.
 fn onward_by(u: Place, p: Option<i32>, z: i32) -> Result<Move, Refusal>
@@ -107,7 +97,7 @@ fn field_way(offsets: &[u32], types: &[u32], i: Index, p: Option<i32>) -> Result
     let Index::Known(w) = i else {
         return Err(Refusal::UNKNOWN_FIELD);
     };
-    if 0x7fff_ffff < w {
+    if i32::try_from(w).is_err() {
         return Err(Refusal::FIELD_OUTSIDE);
     }
     let at = w as usize;

@@ -118,6 +118,10 @@ unfoldable pub encode_index : Index → List ℕ
 encode_index (Known w) = w ∷ 0 ∷ []
 encode_index (Unknown v) = v ∷ 1 ∷ []
 
+-- by its kind, where any kind but 0 is an unknown's
+abbrev pub index_by : (w kind : ℕ) → Index
+index_by w kind = cond (eqb kind 0) (Known w) (Unknown w)
+
 abbrev pub index_of : (w kind : ℕ) → Option Index
 index_of w kind = cond (eqb kind 0) (Some (Known w)) (cond (eqb kind 1) (Some (Unknown w)) None)
 

@@ -1,8 +1,8 @@
 // The words that hold a step, and the steps that five lists of words hold.
 #![tactic(auto)]
 
-ghost use Rattle.std.specs.Prelude.{◌≡◌, [], ◌∷◌, set};
-ghost use Rattle.steps.specs.Words.{with_index, encode, index_of, decode};
+ghost use Rattle.std.specs.Prelude.{◌≡◌, [], ◌∷◌};
+ghost use Rattle.steps.specs.Words.{with_index, encode, decode};
 ghost use Rattle.steps.specs.Lists.{step_at};
 ghost use Rattle.steps.specs.Stored.{StoredAt};
 
@@ -59,28 +59,19 @@ pub fn words_of(s: QPtrOp) -> StepWords
 
 // ---- and back
 
-fn index_of(mark: u32, index: u32) -> Index
-    ensures { result ≡ index_of mark index }
-{
-    match mark {
-        0 => Index::Known(index),
-        _ => Index::Unknown(index),
-    }
-}
-
 // The step that words hold; a kind that is none of the four reads as B.
 pub fn step_of(s: StepWords) -> QPtrOp
     ensures { result ≡ decode s }
 {
     match s.kind {
         1 => QPtrOp::HandleArrayIndex {
-            index: index_of(s.mark, s.index),
+            index: spirv::index_of(s.index, s.mark),
         },
         3 => QPtrOp::Offset(arith::as_signed(s.bytes)),
         4 => QPtrOp::DynOffset {
             stride: s.bytes,
             bound: s.bound,
-            index: index_of(s.mark, s.index),
+            index: spirv::index_of(s.index, s.mark),
         },
         _ => QPtrOp::BufferData,
     }
@@ -108,16 +99,6 @@ pub fn step_at(
     })
 }
 
-// The word at place n; past the list's end it is stored nowhere.
-fn put(list: &mut [u32], n: usize, v: u32)
-    ensures { list.new ≡ set list.old n v }
-{
-    // by index: of what is written through a slice's get_mut a proof knows nothing
-    if n < list.len() {
-        list[n] = v;
-    }
-}
-
 // A step at place n of the five lists.
 pub fn store(
     s: QPtrOp,
@@ -131,9 +112,9 @@ pub fn store(
     ensures { StoredAt n (s ∷ []) kinds.old bytes.old bounds.old marks.old indices.old kinds.new bytes.new bounds.new marks.new indices.new }
 {
     let w = words_of(s);
-    put(kinds, n, w.kind);
-    put(bytes, n, w.bytes);
-    put(bounds, n, w.bound);
-    put(marks, n, w.mark);
-    put(indices, n, w.index);
+    spirv::put_word(kinds, n, w.kind);
+    spirv::put_word(bytes, n, w.bytes);
+    spirv::put_word(bounds, n, w.bound);
+    spirv::put_word(marks, n, w.mark);
+    spirv::put_word(indices, n, w.index);
 }
