@@ -10,8 +10,10 @@ use borrow.Author.Tests.{le-leb, le-ltb, lt-ltb}
 use Rattle.arith.specs.Pairs.{both}
 use Rattle.arith.specs.Refusals.{Result, ok, refused, ◌>>=◌, ◌>>◌, refuse◌unless◌, refuse◌when◌, in_room}
 use Rattle.spirv.specs.declared.DeclRow.{DeclRow}
-use Rattle.spirv.specs.declared.RowReading.{RowReading}
-use Rattle.spirv.specs.declared.RowReading.TheVariants.{Row, Broken}
+use Rattle.std.specs.Prelude.{Ok, Err, Some, None}
+use Rattle.std.specs.Prelude as std
+use Rattle.arith.specs.InCode.{OrRefusal, err}
+use Rattle.arith.specs.declared.refusal.Refusal.{Refusal}
 use Rattle.spirv.specs.Rows.{row_at}
 use Rattle.arith.proofs.Stores.{sets_append}
 use Rattle.shapes.specs.declared.LayoutConfig.{LayoutConfig}
@@ -26,9 +28,7 @@ use Rattle.layout.specs.Arrays as arrays
 use Rattle.layout.specs.Layouts.{Rule, of_setting, of_width, of_elements, of_members, of_handle, no_layout, rule_of}
 use Rattle.structs.specs.Rows.{struct_of_row, struct_both, StructMemory}
 use Rattle.records.specs.Records.{by_rule_of_row, layout_of_row, below_of, with_next, records, filling}
-use Rattle.records.specs.declared.Filling.{Filling}
 use Rattle.records.proofs.Filled.{records_length}
-use Rattle.reading.specs.declared.SheetAnswer.{SheetAnswer}
 use Rattle.reading.proofs.Told.{told_refused}
 use Rattle.reading.specs.Reads.{told, words_in, into, ReadsInto}
 use Rattle.laid.specs.Statements.{answers_of}
@@ -54,10 +54,10 @@ module _ (cfg : LayoutConfig) (members given : List ℕ) where
   rule_kept below offsets r of_handle = refl
   rule_kept below offsets r (no_layout n) = refl
 
-  row_kept : (below : ℕ → arrays.Answer) (offsets : List ℕ) (x : RowReading) → length (layout_of_row cfg below members given offsets x).1 ≡ length offsets
+  row_kept : (below : ℕ → arrays.Answer) (offsets : List ℕ) (x : std.Option DeclRow) → length (layout_of_row cfg below members given offsets x).1 ≡ length offsets
   unfolding layout_of_row
-  row_kept below offsets (Row r) = rule_kept below offsets r (rule_of cfg r.ty)
-  row_kept below offsets Broken = refl
+  row_kept below offsets (Some r) = rule_kept below offsets r (rule_of cfg r.ty)
+  row_kept below offsets None = refl
 
   pub places_kept : (types offsets : List ℕ) (n : ℕ) → length (records cfg types members given offsets n).1 ≡ length offsets
   unfolding records with_next
@@ -166,14 +166,14 @@ module _ (s : Sheet) (z : Sized s) where
       rw (count, setting, types, members, given, places, layouts)
       (sym (seven old (length s.types ∷ []) (setting_words s.setting) (types_part s) (members_part s) (given_part s) (places_part s) (layouts_part s) refl refl z.types z.members z.given z.places))
 
-module _ {input : List ℕ} {r : SheetAnswer} {se ty me gi : List ℕ} (x : ReadsInto input r (Zeros 6) (Zeros 1536) (Zeros 1024) (Zeros 1024) se ty me gi) (old : List ℕ) where
-  pub read_refused : (e : ℕ) → r ≡ SheetAnswer.Refused e → ReadsTable input (SheetAnswer.Refused e) old old
+module _ {input : List ℕ} {r : OrRefusal ℕ} {se ty me gi : List ℕ} (x : ReadsInto input r (Zeros 6) (Zeros 1536) (Zeros 1024) (Zeros 1024) se ty me gi) (old : List ℕ) where
+  pub read_refused : (e : Refusal) → r ≡ Err e → ReadsTable input (Err e) old old
   unfolding in_room ◌>>=◌
   read_refused e h =
       let o = told_refused (read_sheet input) (sym h ∙ (x.answer ∙ ap told (all_held input))) in
       record { answer = rw o; words = rw o }
 
-  module _ (n : ℕ) (h : r ≡ SheetAnswer.Types n) where
+  module _ (n : ℕ) (h : r ≡ Ok n) where
     pub record Came : Type 0 where
       pub sheet : Sheet
       pub is_sheet : read_sheet input ≡ ok sheet
@@ -182,11 +182,11 @@ module _ {input : List ℕ} {r : SheetAnswer} {se ty me gi : List ℕ} (x : Read
     came : Came
     came = by (read_sheet input) refl (sym h ∙ (x.answer ∙ ap told (all_held input)))
       where
-        by : (o : Result Sheet) → read_sheet input ≡ o → SheetAnswer.Types n ≡ told o → Came
+        by : (o : Result Sheet) → read_sheet input ≡ o → Ok n ≡ told o → Came
         by (refused m) e k = absurd (let z : ◌≡◌ {A = ℕ} 0 1 = cc in omega arith)
         by (ok s) e k = record { sheet = s; is_sheet = e; count = cc }
 
-    pub read_short : length old < 7175 → ReadsTable input (SheetAnswer.Refused 24) old old
+    pub read_short : length old < 7175 → ReadsTable input (err 24) old old
     unfolding in_room ◌>>=◌ ◌>>◌ refuse◌when◌
     read_short short = record { answer = rw (came.is_sheet, lt-ltb (length old) 7175 short); words = rw (came.is_sheet, lt-ltb (length old) 7175 short) }
 
@@ -199,7 +199,7 @@ module _ {input : List ℕ} {r : SheetAnswer} {se ty me gi : List ℕ} (x : Read
     setting_is : se ≡ setting_words s.setting
     setting_is = from_sheet (λ y. setting_words y.setting) se (Zeros 6) x.setting
 
-    pub read_whole : 7175 ≤ length old → {new : List ℕ} → new ≡ stored_parts n se ty me gi old → ReadsTable input (SheetAnswer.Types n) old new
+    pub read_whole : 7175 ≤ length old → {new : List ℕ} → new ≡ stored_parts n se ty me gi old → ReadsTable input (Ok n) old new
     unfolding in_room ◌>>=◌ ◌>>◌ refuse◌when◌
     read_whole long {new} e =
         let z = sized input s came.is_sheet in
@@ -215,13 +215,13 @@ module _ {input : List ℕ} {r : SheetAnswer} {se ty me gi : List ℕ} (x : Read
 
 -- ---- what is stored
 
-pub parts_stored : {f : Filling} {cfg : LayoutConfig} {os la t₁ t₂ t₃ t₄ t₅ t₆ t₇ : List ℕ} (n : ℕ) (se ty me gi t : List ℕ)
+pub parts_stored : {f : OrRefusal (Unit {0})} {cfg : LayoutConfig} {os la t₁ t₂ t₃ t₄ t₅ t₆ t₇ : List ℕ} (n : ℕ) (se ty me gi t : List ℕ)
     → cfg ≡ setting_of se → both f (both os la) ≡ filling cfg ty me gi (Zeros 1024) (Zeros 2560) n
     → t₁ ≡ sets t 0 (n ∷ []) → t₂ ≡ sets t₁ 1 se → t₃ ≡ sets t₂ 7 ty → t₄ ≡ sets t₃ 1543 me → t₅ ≡ sets t₄ 2567 gi → t₆ ≡ sets t₅ 3591 os → t₇ ≡ sets t₆ 4615 la
     → t₇ ≡ stored_parts n se ty me gi t
 unfolding stored_parts
 parts_stored {f} {cfg} {os} {la} n se ty me gi t c l e₁ e₂ e₃ e₄ e₅ e₆ e₇ =
-    let laid : both os la ≡ laid_out n se ty me gi = ap (λ (p : Filling × (List ℕ × List ℕ)). p.1) l ∙ ap (λ (g : LayoutConfig). (filling g ty me gi (Zeros 1024) (Zeros 2560) n).1) c in
+    let laid : both os la ≡ laid_out n se ty me gi = ap (λ (p : OrRefusal (Unit {0}) × (List ℕ × List ℕ)). p.1) l ∙ ap (λ (g : LayoutConfig). (filling g ty me gi (Zeros 1024) (Zeros 2560) n).1) c in
     let os_is : os ≡ (laid_out n se ty me gi).0 = ap (λ (p : List ℕ × List ℕ). p.0) laid in
     let la_is : la ≡ (laid_out n se ty me gi).1 = ap (λ (p : List ℕ × List ℕ). p.1) laid in
     rw (e₇, e₆, e₅, e₄, e₃, e₂, e₁, ← os_is, ← la_is)

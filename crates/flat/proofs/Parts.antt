@@ -11,7 +11,7 @@ use Rattle.shapes.specs.Spans.{span_of}
 use Rattle.sheet.specs.Sheet.{Sheet, read_sheet}
 use Rattle.sheet.specs.Tables.{over, setting_words}
 use Rattle.sheet.proofs.GoodSheet.{reads_good}
-use Rattle.reading.specs.declared.SheetAnswer.{SheetAnswer}
+use Rattle.std.specs.Prelude.{Ok}
 use Rattle.reading.specs.Reads.{told, words_in}
 use Rattle.laid.specs.Statements.{Tables}
 use Rattle.laid.proofs.OfSheet.{sheet_tables}
@@ -108,11 +108,11 @@ pub record Read (input table : List ℕ) (n : ℕ) : Type 0 where
   pub sizes : Sized sheet
   pub tables : Tables sheet.types (types_part sheet) (members_part sheet) (given_part sheet) 1024
 
-pub was_read : (input : List ℕ) (n : ℕ) (table₀ table : List ℕ) → ReadsTable input (SheetAnswer.Types n) table₀ table → Read input table n
+pub was_read : (input : List ℕ) (n : ℕ) (table₀ table : List ℕ) → ReadsTable input (Ok n) table₀ table → Read input table n
 unfolding in_room
 was_read input n table₀ table x = by (read_in (length table₀) input) refl x.answer
   where
-    by : (o : Result Sheet) → read_in (length table₀) input ≡ o → SheetAnswer.Types n ≡ told o → Read input table n
+    by : (o : Result Sheet) → read_in (length table₀) input ≡ o → Ok n ≡ told o → Read input table n
     by (refused e) i t = absurd (let z : ◌≡◌ {A = ℕ} 0 1 = cc in omega arith)
     by (ok s) i t =
         let w = went (read_sheet input) _ i in

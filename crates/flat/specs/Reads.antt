@@ -3,10 +3,10 @@
 use Rattle.std.specs.Prelude.{ℕ, ◌≡◌, List, [], ◌∷◌, length, replicate}
 use Rattle.std.proofs.lemmas.List.Edits.{sets}
 use Rattle.arith.specs.Refusals.{Result, in_room}
+use Rattle.arith.specs.InCode.{OrRefusal}
 use Rattle.shapes.specs.Settings.{setting_of}
 use Rattle.sheet.specs.Sheet.{Sheet, read_sheet}
 use Rattle.sheet.specs.Tables.{over}
-use Rattle.reading.specs.declared.SheetAnswer.{SheetAnswer}
 use Rattle.reading.specs.Reads.{told, words_in}
 use Rattle.records.specs.Records.{filling}
 use Rattle.flat.specs.Table.{table_words_lem, table_words}
@@ -14,7 +14,7 @@ use Rattle.flat.specs.Table.{table_words_lem, table_words}
 abbrev pub read_in : (room : ℕ) → (input : List ℕ) → Result Sheet
 read_in room input = in_room room (λ s. table_words_lem) (read_sheet input)
 
-pub record ReadsTable (input : List ℕ) (r : SheetAnswer) (table table' : List ℕ) : Type 0 where
+pub record ReadsTable (input : List ℕ) (r : OrRefusal ℕ) (table table' : List ℕ) : Type 0 where
   pub answer : r ≡ told (read_in (length table) input)
   pub words : table' ≡ over (words_in table_words (read_in (length table) input)) table
 

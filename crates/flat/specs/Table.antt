@@ -1,7 +1,8 @@
 -- The table of a sheet as C keeps it: one list of 7,175 words, in which the number of types, the setting, the types, the members, the given and the
 -- computed offsets and the rows of layouts stand one behind the other.
-use Rattle.std.specs.Prelude.{ℕ, List, [], ◌∷◌, ◌++◌, length, get_or, replicate}
+use Rattle.std.specs.Prelude.{ℕ, ◌≡◌, List, [], ◌∷◌, ◌++◌, length, get_or, replicate}
 use Rattle.shapes.specs.declared.LayoutConfig.{LayoutConfig}
+use Rattle.shapes.specs.declared.tables.Tables.{Tables}
 use Rattle.shapes.specs.Settings.{setting_of}
 use Rattle.shapes.specs.Rows.{flat}
 use Rattle.shapes.specs.Spans.{span_of}
@@ -34,6 +35,15 @@ places_in table = span_of table 3591 1024
 
 abbrev pub layouts_in : List ℕ → List ℕ
 layouts_in table = span_of table 4615 2560
+
+-- these parts, as the code has them
+pub record TablesIn (table : List ℕ) (t : Tables) : Type 0 where
+  pub cfg : t.cfg ≡ setting_in table
+  pub types : t.types.now ≡ types_in table
+  pub rows : t.layouts.rows.now ≡ layouts_in table
+  pub count : t.layouts.count ≡ count_in table
+  pub offsets : t.layouts.offsets.now ≡ places_in table
+  pub members : t.layouts.members.now ≡ members_in table
 
 -- ---- the words of a sheet's table
 

@@ -2,9 +2,12 @@
 #![tactic(auto)]
 
 ghost use Rattle.std.specs.Prelude.{◌≡◌};
+ghost use Rattle.flat.specs.Table.{TablesIn};
 ghost use Rattle.flat.specs.Reads.{ReadsTable, stored_parts};
 
-use reading::SheetAnswer;
+use arith::refusal::Refusal;
+use shapes::rows;
+use shapes::tables::{Layouts, Tables};
 
 // Lays out the types, and stores all parts.
 fn store(n: u32, setting: &[u32], types: &[u32], members: &[u32], given: &[u32], table: &mut [u32])
@@ -14,7 +17,8 @@ fn store(n: u32, setting: &[u32], types: &[u32], members: &[u32], given: &[u32],
     let mut offsets = [0u32; 1024];
     let mut layouts = [0u32; 2560];
     let cfg = shapes::words::setting_of(setting);
-    records::layouts(cfg, n, types, members, given, &mut offsets, &mut layouts);
+    // never short: no sheet has more than 256 types
+    let _ = records::layouts(cfg, n, types, members, given, &mut offsets, &mut layouts);
     spirv::put_words(table, 0, &count);
     spirv::put_words(table, 1, setting);
     spirv::put_words(table, 7, types);
@@ -25,21 +29,34 @@ fn store(n: u32, setting: &[u32], types: &[u32], members: &[u32], given: &[u32],
 }
 
 // Reads a sheet into a table. Where it is refused, or the list is too short, the list is as it was.
-pub fn read_table(sheet: &[u8], table: &mut [u32]) -> SheetAnswer
+pub fn read_table(sheet: &[u8], table: &mut [u32]) -> Result<u32, Refusal>
     ensures { ReadsTable sheet.now result table.old table.new }
 {
     let mut setting = [0u32; 6];
     let mut types = [0u32; 1536];
     let mut members = [0u32; 1024];
     let mut given = [0u32; 1024];
-    match reading::read_sheet(sheet, &mut setting, &mut types, &mut members, &mut given) {
-        SheetAnswer::Refused(e) => SheetAnswer::Refused(e),
-        SheetAnswer::Types(n) => {
-            if table.len() < 7175 {
-                return SheetAnswer::Refused(24);
-            }
-            store(n, &setting, &types, &members, &given, table);
-            SheetAnswer::Types(n)
-        }
+    let n = reading::read_sheet(sheet, &mut setting, &mut types, &mut members, &mut given)?;
+    if table.len() < 7175 {
+        return Err(Refusal::SHORT_LIST);
+    }
+    store(n, &setting, &types, &members, &given, table);
+    Ok(n)
+}
+
+// The parts of a table of any content and length: those of a short one are shorter.
+pub fn tables_in(table: &[u32]) -> Tables<'_>
+    ensures { TablesIn table.now result }
+{
+    let layouts = Layouts {
+        rows: rows::span(table, 4615, 2560),
+        count: spirv::word_at(table, 0),
+        offsets: rows::span(table, 3591, 1024),
+        members: rows::span(table, 1543, 1024),
+    };
+    Tables {
+        cfg: shapes::words::setting_of(rows::span(table, 1, 6)),
+        types: rows::span(table, 7, 1536),
+        layouts,
     }
 }

@@ -5,67 +5,49 @@ ghost use Rattle.std.specs.Prelude.{◌≡◌};
 ghost use Rattle.std.proofs.lemmas.List.Edits.{sets};
 ghost use Rattle.arith.specs.Refusals.{ok};
 ghost use Rattle.text.specs.Whole.{Whole};
-ghost use Rattle.answering.specs.OfTables.{of_tables};
+ghost use Rattle.answering.specs.OfTables.{source};
 ghost use Rattle.listing.specs.Listing.{lines_from};
 
-use shapes::LayoutConfig;
-use text::Answer;
+use arith::refusal::Refusal;
+use shapes::tables::Tables;
 
 // The lines of the questions from a place of the sheet on, or nothing, by way of a list of our own: printing them there measures them too, and they are printed again only where that
 // list doesn't hold them.
 fn put_through(
     sheet: &[u8],
     from: usize,
-    cfg: LayoutConfig,
-    n: u32,
-    types: &[u32],
-    layouts: &[u32],
-    offsets: &[u32],
-    members: &[u32],
+    tables: &Tables<'_>,
     out: &mut [u8],
     own: &mut [u8],
-) -> Answer
-    ensures whole { Whole (ok (lines_from (of_tables cfg n types.now layouts.now offsets.now members.now) sheet.now from)) out.old result out.new }
-    ensures own_after { own.new ≡ sets own.old 0 (lines_from (of_tables cfg n types.now layouts.now offsets.now members.now) sheet.now from) }
+) -> Result<usize, Refusal>
+    ensures whole { Whole (ok (lines_from (source tables.now) sheet.now from)) out.old result out.new }
+    ensures own_after { own.new ≡ sets own.old 0 (lines_from (source tables.now) sheet.now from) }
 {
-    let size = listing::put_answers(
-        sheet, from, cfg, n, types, layouts, offsets, members, own, 0,
-    );
+    let size = listing::put_answers(sheet, from, tables, own, 0);
     if out.len() < size {
-        return Answer::Refused(24);
+        return Err(Refusal::SHORT_LIST);
     }
     if own.len() < size {
-        listing::put_answers(
-            sheet, from, cfg, n, types, layouts, offsets, members, out, 0,
-        );
-        return Answer::Bytes(size);
+        listing::put_answers(sheet, from, tables, out, 0);
+        return Ok(size);
     }
     text::bytes(out, 0, &own[..size]);
-    Answer::Bytes(size)
+    Ok(size)
 }
 
 // All of these lines, or nothing. The answers of a sheet are seldom longer than the sheet twice over: the list of our own is chosen by that.
 pub fn put_all(
     sheet: &[u8],
     from: usize,
-    cfg: LayoutConfig,
-    n: u32,
-    types: &[u32],
-    layouts: &[u32],
-    offsets: &[u32],
-    members: &[u32],
+    tables: &Tables<'_>,
     out: &mut [u8],
-) -> Answer
-    ensures { Whole (ok (lines_from (of_tables cfg n types.now layouts.now offsets.now members.now) sheet.now from)) out.old result out.new }
+) -> Result<usize, Refusal>
+    ensures { Whole (ok (lines_from (source tables.now) sheet.now from)) out.old result out.new }
 {
     if sheet.len() <= 4096 {
         let mut few = [0u8; 8192];
-        return put_through(
-            sheet, from, cfg, n, types, layouts, offsets, members, out, &mut few,
-        );
+        return put_through(sheet, from, tables, out, &mut few);
     }
     let mut many = [0u8; 131072];
-    put_through(
-        sheet, from, cfg, n, types, layouts, offsets, members, out, &mut many,
-    )
+    put_through(sheet, from, tables, out, &mut many)
 }

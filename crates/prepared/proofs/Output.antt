@@ -7,6 +7,8 @@ use lib.ListN.{length, drop, replicate}
 use borrow.Author.Tests.{le-leb, le-ltb}
 use Rattle.arith.specs.Pairs.{both}
 use Rattle.arith.specs.Refusals.{Result, ok, refused, ◌>>=◌, ◌>>◌, refuse◌unless◌}
+use Rattle.std.specs.Prelude.{Ok, Err}
+use Rattle.arith.specs.InCode.{OrRefusal, err}
 use Rattle.spirv.specs.Questions.{Question}
 use Rattle.shapes.specs.Rows.{flat}
 use Rattle.sheet.specs.Sheet.{Sheet, member_count, index_count, max_indices, max_members, read_sheet}
@@ -78,23 +80,31 @@ module _ (input ty me os la : List ℕ) (roomy : Roomy ty me os la) where
 
 pub ready_refused : ReadyRefused
 unfolding lay_output
-ready_refused input r ty me os la ty' me' os' la' x roomy n e = by (read_sheet input) (sym e ∙ (x.says ∙ ap ready_of (enough input ty me os la roomy)))
+ready_refused input r ty me os la ty' me' os' la' x roomy e h = by (read_sheet input) (sym h ∙ (x.says ∙ ap ready_of (enough input ty me os la roomy)))
   where
-    by : (o : Result Sheet) → Ready.Refused n ≡ ready_of o → output_of o ≡ output_of (refused n)
-    by (refused m) h = let z : m ≡ n = cc in ap (λ (k : ℕ). output_of (refused k)) z
-    by (ok s) h = absurd (let z : ◌≡◌ {A = ℕ} 0 1 = cc in omega arith)
+    number_in : OrRefusal Ready → ℕ
+    number_in (Ok t) = 0
+    number_in (Err f) = f.number
+
+    by : (o : Result Sheet) → Err e ≡ ready_of o → output_of o ≡ output_of (refused e.number)
+    by (refused m) g = let z : e.number ≡ m = ap number_in g in ap (λ (k : ℕ). output_of (refused k)) (sym z)
+    by (ok s) g = absurd (let z : ◌≡◌ {A = ℕ} 0 1 = cc in omega arith)
 
 pub ready_answers : ReadyAnswers
-ready_answers input r ty me os la ty' me' os' la' x roomy few cfg n e = by (read_sheet input) refl
+ready_answers input r ty me os la ty' me' os' la' x roomy few t e = by (read_sheet input) refl
   where
-    by : (o : Result Sheet) → read_sheet input ≡ o → Readied input (of_tables cfg n ty' la' os' me')
+    ready_in : OrRefusal Ready → Ready
+    ready_in (Ok u) = u
+    ready_in (Err f) = t
+
+    by : (o : Result Sheet) → read_sheet input ≡ o → Readied input (of_tables t.cfg t.n ty' la' os' me')
     by (refused m) h =
-        absurd (let t : Ready.Tables cfg n ≡ Ready.Refused m = sym e ∙ (x.says ∙ ap ready_of (enough input ty me os la roomy ∙ h)) in let z : ◌≡◌ {A = ℕ} 0 1 = cc in omega arith)
+        absurd (let z : Ok t ≡ err m = sym e ∙ (x.says ∙ ap ready_of (enough input ty me os la roomy ∙ h)) in let y : ◌≡◌ {A = ℕ} 0 1 = cc in omega arith)
     by (ok s) h =
         let o : read_into input ty me ≡ ok s = enough input ty me os la roomy ∙ h in
-        let told : Ready.Tables cfg n ≡ Ready.Tables s.setting (length s.types) = sym e ∙ (x.says ∙ ap ready_of o) in
-        let setting : cfg ≡ s.setting = cc in
-        let count : n ≡ length s.types = cc in
+        let told : t ≡ record { cfg = s.setting; n = length s.types } = ap ready_in (sym e ∙ (x.says ∙ ap ready_of o)) in
+        let setting : t.cfg ≡ s.setting = ap (λ (u : Ready). u.cfg) told in
+        let count : t.n ≡ length s.types = ap (λ (u : Ready). u.n) told in
         let given = over (offsets_words s.types) (replicate max_members 0) in
         let types : ty' ≡ over (types_words 0 s.types) ty = x.types ∙ ap (λ (z : Result Sheet). over (words_in (λ y. types_words 0 y.types) z) ty) o in
         let members : me' ≡ over (members_words s.types) me = x.members ∙ ap (λ (z : Result Sheet). over (words_in (λ y. members_words y.types) z) me) o in
@@ -110,6 +120,6 @@ ready_answers input r ty me os la ty' me' os' la' x roomy few cfg n e = by (read
 
 pub ready_tables : ReadyTables
 unfolding lay_output
-ready_tables input r ty me os la ty' me' os' la' x roomy few cfg n e =
-    let a = ready_answers input r ty me os la ty' me' os' la' x roomy few cfg n e in
-    lines_of_sheet input (of_tables cfg n ty' la' os' me') a ∙ ap output_of (sym a.read)
+ready_tables input r ty me os la ty' me' os' la' x roomy few t e =
+    let a = ready_answers input r ty me os la ty' me' os' la' x roomy few t e in
+    lines_of_sheet input (of_tables t.cfg t.n ty' la' os' me') a ∙ ap output_of (sym a.read)

@@ -1,7 +1,8 @@
 -- Lists of 1,536, 1,024, 1,024 and 2,560 words hold the tables of every sheet; and from these come the lines that `lay` writes.
-use Rattle.std.specs.Prelude.{ℕ, ◌≤◌, ◌≡◌, List, length}
+use Rattle.std.specs.Prelude.{◌≤◌, ◌≡◌, ℕ, List, length, Ok, Err}
 use Rattle.arith.specs.Refusals.{ok, refused}
-use Rattle.shapes.specs.declared.LayoutConfig.{LayoutConfig}
+use Rattle.arith.specs.InCode.{OrRefusal}
+use Rattle.arith.specs.declared.refusal.Refusal.{Refusal}
 use Rattle.spirv.specs.Questions.{Question}
 use Rattle.sheet.specs.Sheet.{Sheet, index_count, max_indices, max_members, read_sheet}
 use Rattle.answers.specs.Lines.{Source, answer_by, answer}
@@ -25,15 +26,15 @@ pub record Readied (input : List ℕ) (x : Source) : Type 0 where
 
 abbrev pub ReadyAnswers : Type 0
 ReadyAnswers =
-    (input : List ℕ) (r : Ready) (ty me os la ty' me' os' la' : List ℕ) → Prepares input r ty me os la ty' me' os' la' → Roomy ty me os la → length os' ≤ max_members
-    → (cfg : LayoutConfig) (n : ℕ) → r ≡ Ready.Tables cfg n → Readied input (of_tables cfg n ty' la' os' me')
+    (input : List ℕ) (r : OrRefusal Ready) (ty me os la ty' me' os' la' : List ℕ) → Prepares input r ty me os la ty' me' os' la' → Roomy ty me os la → length os' ≤ max_members
+    → (t : Ready) → r ≡ Ok t → Readied input (of_tables t.cfg t.n ty' la' os' me')
 
 abbrev pub ReadyTables : Type 0
 ReadyTables =
-    (input : List ℕ) (r : Ready) (ty me os la ty' me' os' la' : List ℕ) → Prepares input r ty me os la ty' me' os' la' → Roomy ty me os la → length os' ≤ max_members
-    → (cfg : LayoutConfig) (n : ℕ) → r ≡ Ready.Tables cfg n → lines_from (of_tables cfg n ty' la' os' me') input 0 ≡ lay_output input
+    (input : List ℕ) (r : OrRefusal Ready) (ty me os la ty' me' os' la' : List ℕ) → Prepares input r ty me os la ty' me' os' la' → Roomy ty me os la → length os' ≤ max_members
+    → (t : Ready) → r ≡ Ok t → lines_from (of_tables t.cfg t.n ty' la' os' me') input 0 ≡ lay_output input
 
 abbrev pub ReadyRefused : Type 0
 ReadyRefused =
-    (input : List ℕ) (r : Ready) (ty me os la ty' me' os' la' : List ℕ) → Prepares input r ty me os la ty' me' os' la' → Roomy ty me os la
-    → (n : ℕ) → r ≡ Ready.Refused n → lay_output input ≡ text_of (refused n)
+    (input : List ℕ) (r : OrRefusal Ready) (ty me os la ty' me' os' la' : List ℕ) → Prepares input r ty me os la ty' me' os' la' → Roomy ty me os la
+    → (e : Refusal) → r ≡ Err e → lay_output input ≡ text_of (refused e.number)

@@ -3,14 +3,14 @@
 
 ghost use Rattle.prepared.specs.Prepared.{Prepares};
 
-use reading::SheetAnswer;
+use arith::refusal::Refusal;
 use shapes::LayoutConfig;
 
-// The setting and how many types there are, or the refusal.
+// What tables that are ready have: the setting, and how many types there are.
 #[derive(Clone, Copy)]
-pub enum Ready {
-    Tables { cfg: LayoutConfig, n: u32 },
-    Refused(u32),
+pub struct Ready {
+    pub cfg: LayoutConfig,
+    pub n: u32,
 }
 
 // Lists of 1,536, 1,024, 1,024 and 2,560 words hold the tables of every sheet. A refusal leaves all as they were.
@@ -20,17 +20,14 @@ pub fn prepare(
     members: &mut [u32],
     offsets: &mut [u32],
     layouts: &mut [u32],
-) -> Ready
+) -> Result<Ready, Refusal>
     ensures { Prepares sheet.now result types.old members.old offsets.old layouts.old types.new members.new offsets.new layouts.new }
 {
     let mut setting = [0u32; 6];
     let mut given = [0u32; 1024];
-    match reading::read_sheet(sheet, &mut setting, types, members, &mut given) {
-        SheetAnswer::Refused(e) => Ready::Refused(e),
-        SheetAnswer::Types(n) => {
-            let cfg = shapes::words::setting_of(&setting);
-            records::layouts(cfg, n, types, members, &given, offsets, layouts);
-            Ready::Tables { cfg, n }
-        }
-    }
+    let n = reading::read_sheet(sheet, &mut setting, types, members, &mut given)?;
+    let cfg = shapes::words::setting_of(&setting);
+    // where the list of layouts is too short for the types, it stays as it was
+    let _ = records::layouts(cfg, n, types, members, &given, offsets, layouts);
+    Ok(Ready { cfg, n })
 }

@@ -6,5 +6,5 @@ use Rattle.prepared.proofs.Output.{ready_tables}
 use Rattle.whole.specs.Statements.{StreamedSheet}
 
 pub streamed_sheet : StreamedSheet
-streamed_sheet input r ty me os la ty' me' os' la' x roomy few cfg n e text s =
-    pieces (of_tables cfg n ty' la' os' me') input 0 text s ∙ ready_tables input r ty me os la ty' me' os' la' x roomy few cfg n e
+streamed_sheet input r ty me os la ty' me' os' la' x roomy few t e text s =
+    pieces (of_tables t.cfg t.n ty' la' os' me') input 0 text s ∙ ready_tables input r ty me os la ty' me' os' la' x roomy few t e

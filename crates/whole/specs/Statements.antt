@@ -1,6 +1,6 @@
 -- Document 01, program `lay`, a buffer at a time: what the buffers hold adds up to what the whole sheet is answered.
-use Rattle.std.specs.Prelude.{ℕ, ◌≤◌, ◌<◌, ◌≡◌, true, List, ◌++◌, length}
-use Rattle.shapes.specs.declared.LayoutConfig.{LayoutConfig}
+use Rattle.std.specs.Prelude.{ℕ, ◌≤◌, ◌<◌, ◌≡◌, true, List, ◌++◌, length, Ok}
+use Rattle.arith.specs.InCode.{OrRefusal}
 use Rattle.spirv.specs.Questions.{Question}
 use Rattle.sheet.specs.Sheet.{Sheet, max_members}
 use Rattle.asking.specs.Questions.{questions_from}
@@ -16,8 +16,8 @@ use Rattle.prepared.specs.Statements.{Roomy, Readied}
 
 abbrev pub StreamedSheet : Type 0
 StreamedSheet =
-    (input : List ℕ) (r : Ready) (ty me os la ty' me' os' la' : List ℕ) → Prepares input r ty me os la ty' me' os' la' → Roomy ty me os la → length os' ≤ max_members
-    → (cfg : LayoutConfig) (n : ℕ) → r ≡ Ready.Tables cfg n → (text : List ℕ) → Streamed (of_tables cfg n ty' la' os' me') input 0 text → text ≡ lay_output input
+    (input : List ℕ) (r : OrRefusal Ready) (ty me os la ty' me' os' la' : List ℕ) → Prepares input r ty me os la ty' me' os' la' → Roomy ty me os la → length os' ≤ max_members
+    → (t : Ready) → r ≡ Ok t → (text : List ℕ) → Streamed (of_tables t.cfg t.n ty' la' os' me') input 0 text → text ≡ lay_output input
 
 -- ---- and it ends
 

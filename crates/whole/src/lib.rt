@@ -5,11 +5,12 @@ ghost use Rattle.arith.specs.Refusals.{ok};
 ghost use Rattle.text.specs.Whole.{Whole};
 ghost use Rattle.answers.specs.Output.{lay_output};
 
+use arith::refusal::Refusal;
 use prepared::Ready;
-use text::Answer;
+use shapes::tables::{Layouts, Tables};
 
 // All of the lines, or one refusal line for a bad sheet; 24 and nothing where they don't fit.
-pub fn answer_sheet(sheet: &[u8], out: &mut [u8]) -> Answer
+pub fn answer_sheet(sheet: &[u8], out: &mut [u8]) -> Result<usize, Refusal>
     ensures { Whole (ok (lay_output sheet.now)) out.old result out.new }
 {
     let mut types = [0u32; 1536];
@@ -17,9 +18,20 @@ pub fn answer_sheet(sheet: &[u8], out: &mut [u8]) -> Answer
     let mut offsets = [0u32; 1024];
     let mut layouts = [0u32; 2560];
     match prepared::prepare(sheet, &mut types, &mut members, &mut offsets, &mut layouts) {
-        Ready::Tables { cfg, n } => {
-            gathering::put_all(sheet, 0, cfg, n, &types, &layouts, &offsets, &members, out)
+        Ok(Ready { cfg, n }) => {
+            let layouts = Layouts {
+                rows: &layouts,
+                count: n,
+                offsets: &offsets,
+                members: &members,
+            };
+            let tables = Tables {
+                cfg,
+                types: &types,
+                layouts,
+            };
+            gathering::put_all(sheet, 0, &tables, out)
         }
-        Ready::Refused(e) => fitting::put_refusal_line(out, e),
+        Err(e) => fitting::put_refusal_line(out, e.number),
     }
 }

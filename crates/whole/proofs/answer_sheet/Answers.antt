@@ -4,10 +4,10 @@ use native.Mathlib.Omega.{arith}
 use mathlib.Core.Path.{refl}
 use Rattle.whole.proofs.answer_sheet.Goals as goal
 
-pub returns-in-Tables : goal.returns-in-Tables
-returns-in-Tables c =
-    rw (ready_tables _ _ _ _ _ _ _ _ _ _ c.prepare.ensures (record { types = omega arith; members = omega arith; offsets = refl; layouts = omega arith }) (omega (arith, c.prepare.auto)) _ _ c.in-Tables.is) at c.put_all.ensures
+pub returns-in-Ok : goal.returns-in-Ok
+returns-in-Ok c =
+    rw (ready_tables _ _ _ _ _ _ _ _ _ _ c.prepare.ensures (record { types = omega arith; members = omega arith; offsets = refl; layouts = omega arith }) (omega (arith, c.prepare.auto)) _ c.in-Ok.is) at c.put_all.ensures
 
-pub returns-in-Refused : goal.returns-in-Refused
-returns-in-Refused c =
-    rw (ready_refused _ _ _ _ _ _ _ _ _ _ c.prepare.ensures (record { types = omega arith; members = omega arith; offsets = refl; layouts = omega arith }) _ c.in-Refused.is) c.put_refusal_line.ensures
+pub returns-in-Err : goal.returns-in-Err
+returns-in-Err c =
+    rw (ready_refused _ _ _ _ _ _ _ _ _ _ c.prepare.ensures (record { types = omega arith; members = omega arith; offsets = refl; layouts = omega arith }) _ c.in-Err.is) c.put_refusal_line.ensures
