@@ -337,7 +337,7 @@ pub fn put_at(list: &mut [u32], first: usize, n: usize, w: u32)
     }
 }
 
-// The members that a line names behind index `at`, from `first` on.
+// The members that a line names behind index `at`, from `first` on. A loop, for the reason above `count`.
 pub fn put_members(line: &[u8], at: usize, above: u32, list: &mut [u32], first: usize)
     ensures { (ms : List ℕ) → read_all (read_type above) (behind line.now at) ≡ math.some ms → list.new ≡ sets list.old first ms }
 {
@@ -350,7 +350,7 @@ pub fn put_members(line: &[u8], at: usize, above: u32, list: &mut [u32], first: 
     }
 }
 
-// The indices of a chain behind index `at`, two words each. One function for members too would take a closure that reads and one for the words, and is longer.
+// The indices of a chain behind index `at`, two words each. One function for members too would take a closure that reads and one for the words, and is longer. A loop, for the reason above `count`.
 pub fn put_indices(line: &[u8], at: usize, list: &mut [u32])
     ensures { Stored (read_all read_index (behind line.now at)) list.old list.new }
 {

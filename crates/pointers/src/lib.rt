@@ -38,14 +38,17 @@ fn by_row(ws: &[u32]) -> Result<u32, Refusal>
     pointee_of(r.ty)
 }
 
-// The same; a pointer's row, whose letter P is 80, is known by its words.
+// The tag of a pointer's row, as the crate `spirv` has it.
+const POINTER: u32 = b'P' as u32;
+
+// The same; a pointer's row is known by its words.
 #[tactic(auto, using(crate::proofs::PointerRows::of_pointer))]
 fn pointee_in(ws: &[u32]) -> Result<u32, Refusal>
     requires { length ws.now ≡ 6 }
     ensures { result ≡ in_code (pointee_of_row (decode_row ws.now)) }
 {
     match ws {
-        &[80, _, pointee, 0, 0, 0] => Ok(pointee),
+        &[POINTER, _, pointee, 0, 0, 0] => Ok(pointee),
         _ => by_row(ws),
     }
 }
