@@ -11,13 +11,19 @@ use pointers::ArrayLength;
 use shapes::tables::Tables;
 use spirv::ChainOp;
 
+// The indices that a chain may have.
+const MAX_INDICES: usize = 255;
+
+// The steps that a chain may have, one more than indices.
+const MAX_STEPS: usize = 256;
+
 fn words_of(count: usize) -> u32
     ensures { result ≡ min (2 * count) 510 }
 {
-    if count < 255 { 2 * count as u32 } else { 510 }
+    2 * count.min(MAX_INDICES) as u32
 }
 
-// C, with room for 256 steps: one more than a chain has indices, `count` of which stand in front of the list.
+// C, with room for that many steps; `count` indices stand in front of the list.
 pub fn chain_line(
     tables: &Tables<'_>,
     op: ChainOp,
@@ -30,11 +36,11 @@ pub fn chain_line(
     ensures { Printed (text_of (chain_reply tables.now.layouts.count tables.now.types.now tables.now.layouts.rows.now tables.now.layouts.offsets.now tables.now.layouts.members.now tables.now.cfg op ptr (indices_in (chain_words count list.now)))) out.old at result out.new }
 {
     let chain = shapes::rows::span(list, 0, words_of(count));
-    let mut kinds = [0u32; 256];
-    let mut bytes = [0u32; 256];
-    let mut bounds = [0u32; 256];
-    let mut marks = [0u32; 256];
-    let mut indices = [0u32; 256];
+    let mut kinds = [0u32; MAX_STEPS];
+    let mut bytes = [0u32; MAX_STEPS];
+    let mut bounds = [0u32; MAX_STEPS];
+    let mut marks = [0u32; MAX_STEPS];
+    let mut indices = [0u32; MAX_STEPS];
     match lowering::lower_access_chain(
         tables,
         op,

@@ -1,10 +1,17 @@
 -- Document 01, program `lay`: the answers of T, E and Q by what stands in tables of layouts.
-use Rattle.std.specs.Prelude.{ℕ, List, ◌∷◌, map, length}
+use Rattle.std.specs.Prelude.{ℕ, Bool, List, ◌∷◌, map, length, Ok, Err}
 use Rattle.arith.specs.Refusals.{Result, ok, ◌>>=◌, in_room}
+use Rattle.arith.specs.InCode.{OrRefusal}
 use Rattle.decimal.specs.Text.{bytes}
 use Rattle.decimal.specs.Decimal.{decimal}
 use Rattle.components.specs.Found.{answers_in, lookup_in}
 use Rattle.answers.specs.Lines.{AnswerLine, layout_line, equal_line}
+use Rattle.printing.specs.Texts.{equal_text, refusal_text}
+
+-- the text of E by what was found
+abbrev pub equal_or_refusal : OrRefusal Bool → List ℕ
+equal_or_refusal (Ok same) = equal_text same
+equal_or_refusal (Err e) = refusal_text e.number
 
 module _ (layouts : List ℕ) (n : ℕ) (offsets members : List ℕ) where
   abbrev pub layout_reply : (type : ℕ) → Result AnswerLine

@@ -1,11 +1,12 @@
 // The answer lines of T, E and Q over tables of layouts, printed into a lent slice at a place, as the crate `text` prints.
 #![tactic(auto)]
 
-ghost use Rattle.std.specs.Prelude.{List, ℕ};
+ghost use Rattle.std.specs.Prelude.{◌≡◌, List, ℕ};
 ghost use Rattle.text.specs.Printed.{Printed};
 ghost use Rattle.answers.specs.Output.{text_of};
-ghost use Rattle.replies.specs.Replies.{layout_reply, equal_reply, components_reply};
+ghost use Rattle.replies.specs.Replies.{layout_reply, equal_reply, equal_or_refusal, components_reply};
 
+use arith::refusal::Refusal;
 use shapes::tables::Layouts;
 
 // T. No line shows the types of fields, so it is the same for any members.
@@ -19,8 +20,17 @@ pub fn layout_line(layouts: &Layouts<'_>, t: u32, out: &mut [u8], at: usize) -> 
     }
 }
 
-// E.
+// Whether two types have the same line, or the refusal of the first that has none.
 #[tactic(auto, unfolding(arith::proofs::Opened::opened), using(printing::proofs::Types::any_types))]
+fn same_lines(layouts: &Layouts<'_>, first: u32, second: u32) -> Result<bool, Refusal>
+    ensures { (members : List ℕ) → equal_or_refusal result ≡ text_of (equal_reply layouts.now.rows.now layouts.now.count layouts.now.offsets.now members first second) }
+{
+    let a = layouts.answer_at(first)?;
+    let b = layouts.answer_at(second)?;
+    Ok(comparing::same_lines(a, b, layouts.offsets))
+}
+
+// E.
 pub fn equal_line(
     layouts: &Layouts<'_>,
     first: u32,
@@ -30,19 +40,16 @@ pub fn equal_line(
 ) -> usize
     ensures { (members : List ℕ) → Printed (text_of (equal_reply layouts.now.rows.now layouts.now.count layouts.now.offsets.now members first second)) out.old at result out.new }
 {
-    match layouts.answer_at(first) {
+    match same_lines(layouts, first, second) {
+        Ok(same) => printing::equal_line(out, at, same),
         Err(e) => printing::refusal_line(out, at, e.number),
-        Ok(a) => match layouts.answer_at(second) {
-            Err(e) => printing::refusal_line(out, at, e.number),
-            Ok(b) => {
-                let same = comparing::same_lines(a, b, layouts.offsets);
-                printing::equal_line(out, at, same)
-            }
-        },
     }
 }
 
-// Q, with room for 1,024 components: as many as a sheet has members.
+// As many components as a sheet has members.
+const MAX_COMPONENTS: usize = 1_024;
+
+// Q, with room for that many.
 pub fn components_line(
     layouts: &Layouts<'_>,
     t: u32,
@@ -53,7 +60,7 @@ pub fn components_line(
 ) -> usize
     ensures { Printed (text_of (components_reply layouts.now.rows.now layouts.now.count layouts.now.offsets.now layouts.now.members.now t start end)) out.old at result out.new }
 {
-    let mut found = [0u32; 1024];
+    let mut found = [0u32; MAX_COMPONENTS];
     match components::find_components_containing(layouts, t, start, end, &mut found) {
         Ok(count) => printing::components_line(out, at, &found[..count]),
         Err(e) => printing::refusal_line(out, at, e.number),

@@ -13,6 +13,13 @@ use shapes::LayoutConfig;
 use spirv::{DeclRow, Decoration, MemberDecoration, SpvType};
 use std::cmp::Ordering;
 
+// A sheet's limits: types, members of all structs, indices of a chain.
+pub const MAX_TYPES: u32 = 256;
+
+pub const MAX_MEMBERS: usize = 1_024;
+
+pub const MAX_INDICES: usize = 255;
+
 // What stands above a line: a struct, a decoration of one, or another line. A struct's row has what its D lines come to.
 #[derive(Clone, Copy, Debug, PartialEq, Eq, Hash)]
 pub enum Place {
@@ -111,7 +118,7 @@ fn declare(t: Tally, ty: SpvType, count: usize) -> Result<Tally, Refusal>
     ensures { result ≡ declared_by t ty count }
 {
     let members = count.saturating_add(t.members as usize);
-    if 256 <= t.types || 1024 < members {
+    if MAX_TYPES <= t.types || MAX_MEMBERS < members {
         return Err(Refusal::OVERSIZE);
     }
     Ok(Tally {
@@ -151,7 +158,7 @@ pub fn count_of(a: Ask) -> usize
 fn ask(t: Tally, count: usize) -> Result<Tally, Refusal>
     ensures { result ≡ asked_by t count }
 {
-    if 255 < count {
+    if MAX_INDICES < count {
         return Err(Refusal::OVERSIZE);
     }
     Ok(Tally {
