@@ -125,7 +125,10 @@ fn array_part(
     moves::prefix(r, p, s, n, kinds, bytes, bounds, marks, indices)
 }
 
-// A chain of at most 255 indices, each two words, from a place on: its steps in the five lists, or the refusal and the lists as they were.
+// The words of the indices that a chain may have: 255, each two words.
+pub const MAX_WORDS: usize = 510;
+
+// A chain of at most so many words, from a place on: its steps in the five lists, or the refusal and the lists as they were.
 pub fn lower_from(
     layouts: &Layouts<'_>,
     chain: &[u32],
@@ -138,7 +141,7 @@ pub fn lower_from(
 ) -> Result<usize, Refusal>
     ensures { Wrote 0 (chain_of (room_of kinds.old bytes.old bounds.old marks.old indices.old) layouts.now.rows.now layouts.now.offsets.now layouts.now.members.now layouts.now.count l chain.now) result kinds.old bytes.old bounds.old marks.old indices.old kinds.new bytes.new bounds.new marks.new indices.new }
 {
-    if 510 < chain.len() {
+    if MAX_WORDS < chain.len() {
         return Err(Refusal::OVERSIZE);
     }
     let room = kinds

@@ -62,7 +62,7 @@ pub fn lower_access_chain(
     if n <= ptr {
         return Err(Refusal::MISREAD);
     }
-    if 510 < chain.len() {
+    if chain::MAX_WORDS < chain.len() {
         return Err(Refusal::OVERSIZE);
     }
     let l = start_at(tables, op, ptr)?;
