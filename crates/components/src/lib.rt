@@ -1,7 +1,7 @@
 // The components of a layout that hold a range of bytes (find_components_containing of layout.rs).
 #![tactic(auto)]
 
-ghost use Rattle.std.specs.Prelude.{◌≡◌, ◌||◌, ◌+◌, ◌/◌, ◌<◌, leb, eqb, length, set};
+ghost use Rattle.std.specs.Prelude.{◌≡◌, ◌||◌, ◌+◌, ◌/◌, ◌<◌, leb, eqb, length};
 ghost use Rattle.shapes.specs.Spans.{Reading, answer_by};
 ghost use Rattle.shapes.specs.Rows.{answer_at};
 ghost use Rattle.arith.specs.Refusals.{ok};
@@ -66,21 +66,13 @@ fn field_holds(offset: u32, a: Result<TypeLayout, Refusal>, start: u32, end: u32
 
 // ---- into the lent list, where a place past its end is left out: a list without places counts only
 
-fn put(out: &mut [u32], n: usize, i: u32)
-    ensures { out.new ≡ set out.old n i }
-{
-    if n < out.len() {
-        out[n] = i;
-    }
-}
-
 #[tactic(auto, unfolding(crate::specs::Found::kept))]
 fn keep(hit: bool, out: &mut [u32], n: usize, i: u32) -> usize
     requires { n < 4294967296 }
     ensures { both result out.new ≡ kept hit n i out.old }
 {
     if hit {
-        put(out, n, i);
+        spirv::put_word(out, n, i);
         n + 1
     } else {
         n
@@ -111,7 +103,7 @@ fn elements_containing(
 {
     match element_containing(stride, len, size, start, end) {
         Some(i) => {
-            put(out, 0, i);
+            spirv::put_word(out, 0, i);
             1
         }
         None => 0,

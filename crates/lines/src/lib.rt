@@ -332,9 +332,7 @@ pub fn put_at(list: &mut [u32], first: usize, n: usize, w: u32)
     let Some(i) = first.checked_add(n) else {
         return;
     };
-    if i < list.len() {
-        list[i] = w;
-    }
+    spirv::put_word(list, i, w);
 }
 
 // The members that a line names behind index `at`, from `first` on. A loop, for the reason above `count`.
