@@ -30,7 +30,7 @@ fn start_place(tables: &Tables<'_>, op: ChainOp, t: u32) -> Result<Place, Refusa
 {
     match op {
         ChainOp::AccessChain | ChainOp::InBoundsAccessChain => {
-            places::place_at(tables.layouts.rows, tables.layouts.count, t)
+            places::place_at(&tables.layouts, t)
         }
         ChainOp::PtrAccessChain | ChainOp::InBoundsPtrAccessChain => start_array(tables, t),
     }

@@ -151,7 +151,7 @@ pub fn next_move(layouts: &Layouts<'_>, l: Place, i: Index, p: Option<i32>) -> R
 {
     match way_of(layouts, l, i, p)? {
         Way::Part { ty, by } => {
-            let u = places::place_at(layouts.rows, layouts.count, ty)?;
+            let u = places::place_at(layouts, ty)?;
             arrive(by, i, p, u)
         }
         Way::Give(u) => Ok(Move::Emit(u, QPtrOp::HandleArrayIndex { index: i })),

@@ -7,6 +7,7 @@ ghost use Rattle.shapes.specs.Rows.{answer_at};
 ghost use Rattle.places.specs.Places.{place_of, found_of, Parted, Made, Named};
 
 use arith::refusal::Refusal;
+use shapes::tables::Layouts;
 use shapes::{Components, Handle, TypeLayout};
 
 // Memory by its parts, a buffer or an array of buffers by those of its contents, an opaque handle, an array of these.
@@ -93,16 +94,16 @@ fn by_parts(ws: &[u32]) -> Result<Place, Refusal>
     }
 }
 
-// The place of type t, of the first n types.
+// The place of type t.
 #[tactic(auto, using(shapes::proofs::RowLaws::row_missing), unfolding(shapes::specs::Rows::answer_at, shapes::specs::Rows::row_at))]
-pub fn place_at(layouts: &[u32], n: u32, t: u32) -> Result<Place, Refusal>
-    ensures { result ≡ found_of (answer_at layouts.now n t) }
+pub fn place_at(layouts: &Layouts<'_>, t: u32) -> Result<Place, Refusal>
+    ensures { result ≡ found_of (answer_at layouts.now.rows.now layouts.now.count t) }
 {
-    if n <= t {
+    if layouts.count <= t {
         return Err(Refusal::MISREAD);
     }
     let at = 10 * t as usize;
-    let Some(ws) = layouts.get(at..at + 10) else {
+    let Some(ws) = layouts.rows.get(at..at + 10) else {
         return Err(Refusal::MISREAD);
     };
     by_parts(ws)

@@ -5,6 +5,7 @@ ghost use Rattle.std.specs.Prelude.{◌≡◌};
 ghost use Rattle.values.specs.Values.{shown_parts, shown_in, Into};
 
 use arith::refusal::Refusal;
+use shapes::tables::Layouts;
 use shapes::{Components, Handle, TypeLayout};
 
 // The parts of the memory that T shows.
@@ -30,17 +31,11 @@ pub fn shown_offsets(p: Components, offsets: &[u32]) -> &[u32]
 
 // The layout of a type, its field offsets written at the start of the list; or the refusal, 24 where they don't fit, and the list as it was.
 #[tactic(auto, unfolding(crate::specs::Values::held_in))]
-pub fn layout_into(
-    layouts: &[u32],
-    n: u32,
-    offsets: &[u32],
-    t: u32,
-    out: &mut [u32],
-) -> Result<TypeLayout, Refusal>
-    ensures { Into layouts.now n offsets.now t result out.old out.new }
+pub fn layout_into(layouts: &Layouts<'_>, t: u32, out: &mut [u32]) -> Result<TypeLayout, Refusal>
+    ensures { Into layouts.now.rows.now layouts.now.count layouts.now.offsets.now t result out.old out.new }
 {
-    let l = shapes::rows::answer_at(layouts, n, t)?;
-    let part = shown_offsets(shown_parts(l), offsets);
+    let l = layouts.answer_at(t)?;
+    let part = shown_offsets(shown_parts(l), layouts.offsets);
     if out.len() < part.len() {
         return Err(Refusal::SHORT_LIST);
     }
