@@ -4,6 +4,7 @@ use native.Mathlib.Omega.{arith}
 use mathlib.Core.Path.{◌≡◌, refl, sym, ap, ◌∙◌}
 use mathlib.Core.Bool.{Bool, true, false}
 use mathlib.Core.List.{List}
+use Rattle.std.specs.Prelude.{Option, Some, None, Ok}
 use lib.Dec.{leb, ltb}
 use lib.ListN.{length, drop}
 use lib.Seq.{take_at}
@@ -21,7 +22,6 @@ use Rattle.components.specs.Found.{answers_in}
 use Rattle.lower.specs.declared.QPtrOp.{QPtrOp}
 use Rattle.lower.specs.Chain.{chain_by, lower_chain, chain_in_room}
 use Rattle.lower.proofs.StepsFit.{steps_fit}
-use Rattle.moves.specs.declared.Walk.TheVariants.{Steps}
 use Rattle.moves.specs.Written.{walk_of, steps_of}
 use Rattle.pointers.specs.OverTables.{pointee_at}
 use Rattle.promise.proofs.Table.{chain_above_0}
@@ -32,8 +32,6 @@ use Rattle.joined.proofs.EndToEnd.{kept_by}
 use Rattle.flat.specs.Table.{count_in, setting_in, types_in, members_in, places_in, layouts_in}
 use Rattle.flat.proofs.Parts.{Read, was_read}
 use Rattle.flat.proofs.Answers.{pointees, answers}
-use Rattle.tabled.specs.declared.OpReading.{OpReading}
-use Rattle.tabled.specs.declared.OpReading.TheVariants.{Op, Unknown}
 use Rattle.tabled.specs.Chains.{op_of, op_in, places, chain_at, chain_in, room_in, Lowered}
 use Rattle.tabled.specs.EndToEnd.{Calls, KeptSteps, KeptBytes, EndToEnd}
 use Rattle.tabled.proofs.Laws.{steps_size, by_result}
@@ -86,9 +84,9 @@ module _ {input table : List ℕ} {n : ℕ} (r : Read input table n) where
 
 -- ---- what is asked
 
-is_op : (r : OpReading) (o : ChainOp) → op_in r ≡ ok o → r ≡ Op o
-is_op (Op p) o h = ap Op (value_is h)
-is_op Unknown o h = absurd (let z : ◌≡◌ {A = ℕ} 0 1 = cc in omega arith)
+is_op : (r : Option ChainOp) (o : ChainOp) → op_in r ≡ ok o → r ≡ Some o
+is_op (Some p) o h = ap Some (value_is h)
+is_op None o h = absurd (let z : ◌≡◌ {A = ℕ} 0 1 = cc in omega arith)
 
 not_longer : (k : ℕ) (x : Result (List QPtrOp)) (steps : List QPtrOp) → ((refuse oversize when ltb max_indices k) >> x) ≡ ok steps → k ≤ max_indices
 unfolding refuse◌when◌ ◌>>◌
@@ -112,11 +110,11 @@ lowered_in room s o ptr is steps h =
 
 module _ {input table : List ℕ} {n : ℕ} (r : Read input table n) (op ptr : ℕ) (chain : List ℕ) (room : ℕ) where
   -- what is answered is document 01's C for the sheet
-  pub in_sheet : (o : ChainOp) (is : List Index) → op_of op ≡ Op o → indices_of chain ≡ ok is → length is ≤ max_indices → chain_in room table op ptr chain ≡ chain_in_room room r.sheet o ptr is
+  pub in_sheet : (o : ChainOp) (is : List Index) → op_of op ≡ Some o → indices_of chain ≡ ok is → length is ≤ max_indices → chain_in room table op ptr chain ≡ chain_in_room room r.sheet o ptr is
   unfolding chain_in ◌>>=◌
   in_sheet o is eo ei few = asked eo ei ∙ same_chain r room o ptr is few
     where
-      asked : op_of op ≡ Op o → indices_of chain ≡ ok is → chain_in room table op ptr chain ≡ chain_at room table o ptr is
+      asked : op_of op ≡ Some o → indices_of chain ≡ ok is → chain_in room table op ptr chain ≡ chain_at room table o ptr is
       asked f g = rw (f, g)
 
   -- and its steps keep demand 3
@@ -140,9 +138,9 @@ module _ {input table : List ℕ} {n : ℕ} (r : Read input table n) (op ptr : �
 abbrev Above : {A : Type 0} → Result A → Type 0
 Above x = RefusedBy (λ n. 0 < n) x
 
-op_above : (r : OpReading) → Above (op_in r)
-op_above (Op o) = fine_by
-op_above Unknown = this_by (omega arith)
+op_above : (r : Option ChainOp) → Above (op_in r)
+op_above (Some o) = fine_by
+op_above None = this_by (omega arith)
 
 indices_above : (chain : List ℕ) → Above (indices_of chain)
 unfolding indices_of
@@ -177,14 +175,14 @@ module _ (input : List ℕ) (op ptr : ℕ) (chain : List ℕ) (c : Calls input o
   r : Read input c.table c.n
   r = was_read input c.n c.table₀ c.table c.read
 
-  answered : (o : ChainOp) (is : List Index) → op_of op ≡ Op o → indices_of chain ≡ ok is → length is ≤ max_indices
+  answered : (o : ChainOp) (is : List Index) → op_of op ≡ Some o → indices_of chain ≡ ok is → length is ≤ max_indices
       → Lowered (chain_in_room (room_in c.out₀) r.sheet o ptr is) c.answer c.out₀ c.out
   answered o is eo ei few = by_result (sym (in_sheet r op ptr chain (room_in c.out₀) o is eo ei few)) c.lowered
 
-  kept : (count : ℕ) → c.answer ≡ Steps count → KeptBytes r.sheet op ptr chain c.out count
+  kept : (count : ℕ) → c.answer ≡ Ok count → KeptBytes r.sheet op ptr chain c.out count
   kept count e = by (chain_in (room_in c.out₀) c.table op ptr chain) refl (sym e ∙ c.lowered.says) c.lowered.holds
     where
-      by : (x : Result (List QPtrOp)) → chain_in (room_in c.out₀) c.table op ptr chain ≡ x → Steps count ≡ walk_of 0 x → c.out ≡ over (steps_bytes (steps_of x)) c.out₀
+      by : (x : Result (List QPtrOp)) → chain_in (room_in c.out₀) c.table op ptr chain ≡ x → Ok count ≡ walk_of 0 x → c.out ≡ over (steps_bytes (steps_of x)) c.out₀
           → KeptBytes r.sheet op ptr chain c.out count
       by (refused m) i h k = absurd (let z : ◌≡◌ {A = ℕ} 0 1 = cc in omega arith)
       by (ok steps) i h k =

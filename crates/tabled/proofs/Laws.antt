@@ -4,11 +4,14 @@ use native.Mathlib.Omega.{arith}
 use mathlib.Core.Path.{◌≡◌, refl, sym, ap, ◌∙◌, subst}
 use mathlib.Core.Bool.{Bool, true, false, cond}
 use mathlib.Core.List.{List, [], ◌∷◌}
+use Rattle.std.specs.Prelude.{Option, Some, None, Ok, Err}
 use lib.Dec.{eqb, ltb}
 use lib.ListN.{length, take, drop, replicate, length-append, length-replicate}
 use lib.Seq.{sets, take_at}
 use borrow.Author.Tests.{eqb-true, le-leb, lt-leb, le-ltb, lt-ltb, ltb-true, ltb-false}
-use Rattle.arith.specs.Refusals.{Result, ok, refused, ◌>>=◌, ◌>>◌, refuse◌when◌, refuse◌unless◌, in_room, misread, oversize}
+use Rattle.arith.specs.Refusals.{Result, ok, refused, ◌>>=◌, ◌>>◌, refuse◌when◌, refuse◌unless◌, in_room, misread, oversize, short_list}
+use Rattle.arith.specs.InCode.{OrRefusal, err, in_code}
+use Rattle.arith.specs.declared.refusal.Refusal.{Refusal}
 use Rattle.arith.proofs.Results.{went, passed, value_is, not_refused, not_met, first_true, in_room_lem}
 use Rattle.spirv.specs.declared.ChainOp.{ChainOp}
 use Rattle.spirv.specs.declared.Index.{Index}
@@ -27,20 +30,14 @@ use Rattle.steps.specs.Lists.{steps_in, step_at}
 use Rattle.steps.specs.Stored.{StoredAt}
 use Rattle.moves.specs.Moves.{indices_in}
 use Rattle.moves.specs.Written.{walk_of, steps_of, Wrote}
-use Rattle.moves.specs.declared.Walk.{Walk}
-use Rattle.moves.specs.declared.Walk.TheVariants.{Steps, Refused}
 use Rattle.chain.specs.Chains.{room_of}
 use Rattle.pointers.specs.OverTables.{pointee_at, chain_over}
 use Rattle.lowering.proofs.Written.{read_again}
 use Rattle.wire.specs.Wire.{formed_bytes, indices_of, step_bytes, steps_bytes}
 use Rattle.wire.proofs.Back.{step_size}
 use Rattle.flat.specs.Table.{count_in, setting_in, types_in, members_in, places_in, layouts_in}
-use Rattle.tabled.specs.declared.Asked.{Asked}
-use Rattle.tabled.specs.declared.Asked.TheVariants as asked
-use Rattle.tabled.specs.declared.OpReading.{OpReading}
-use Rattle.tabled.specs.declared.OpReading.TheVariants.{Op, Unknown}
-use Rattle.tabled.specs.Chains.{op_of, op_in, asked_in, asked_of, places, chain_at, chain_in, room_in, Lowered}
-use Rattle.tabled.specs.InCode.{chain_of, walk_in, held_by, AtMost, word_of, walk_from, WordOf, Walked}
+use Rattle.tabled.specs.Chains.{op_of, op_in, asked_in, places, chain_at, chain_in, room_in, Lowered}
+use Rattle.tabled.specs.InCode.{chain_of, walk_in, held_by}
 
 -- ---- counts
 
@@ -59,7 +56,7 @@ unfolding formed_bytes
 even s h = eqb-true (length s % 8) 0 (first_true (eqb (length s % 8) 0) _ h)
 
 -- the words, read from a list that holds them all
-pub words_read : (m : ℕ) (s : List ℕ) {l : List ℕ} → length s / 4 ≤ m → l ≡ sets (replicate m 0) 0 (words_of s) → take (length s / 4) (drop 0 l) ≡ words_of s
+pub words_read : (m : ℕ) (s : List ℕ) {l : List ℕ} → length s / 4 ≤ m → l ≡ sets (replicate m 0) 0 (words_of s) → take (length s / 4) l ≡ words_of s
 words_read m s {l} h e =
     let n = words_length (length s / 4) s in
     let zeros : List ℕ = replicate m 0 in
@@ -76,29 +73,40 @@ module _ (ks bs ls ms is : List ℕ) where
   steps_count zero = refl
   steps_count (suc n) = let e = steps_count n in omega (arith, length-append (steps_in ks bs ls ms is n) (step_at ks bs ls ms is n ∷ []))
 
+  -- what a walk left in the lists, in a room
+
+  module _ (room : ℕ) {w : OrRefusal ℕ} where
+    pub held_refused : {e : ℕ} → w ≡ err e → in_room room length (held_by w ks bs ls ms is) ≡ refused e
+    unfolding in_room ◌>>=◌
+    held_refused h = rw h
+
+    module _ {n : ℕ} (h : w ≡ Ok n) where
+      pub held_short : room < n → in_room room length (held_by w ks bs ls ms is) ≡ refused short_list
+      unfolding in_room ◌>>=◌ ◌>>◌ refuse◌when◌
+      held_short short = rw (h, steps_count n, lt-ltb room n short)
+
+      pub held_whole : n ≤ room → in_room room length (held_by w ks bs ls ms is) ≡ ok (steps_in ks bs ls ms is n)
+      unfolding in_room ◌>>=◌ ◌>>◌ refuse◌when◌
+      held_whole fits = rw (h, steps_count n, le-ltb room n fits)
+
   -- ---- steps as bytes
 
-  module _ (old : List ℕ) where
-    pub put_refused : (w : Walk) (e : ℕ) → w ≡ Refused e → Lowered (in_room (room_in old) length (held_by w ks bs ls ms is)) (Refused e) old old
-    unfolding in_room ◌>>=◌
-    put_refused w e h = record { says = rw h; holds = rw h }
+  module _ (old : List ℕ) {w : OrRefusal ℕ} where
+    pub put_refused : {e : Refusal} → w ≡ Err e → Lowered (in_room (room_in old) length (held_by w ks bs ls ms is)) (Err e) old old
+    put_refused h = let q = held_refused (room_in old) h in record { says = rw q; holds = rw q }
 
-    pub put_short : (w : Walk) (n : ℕ) → w ≡ Steps n → room_in old < n → Lowered (in_room (room_in old) length (held_by w ks bs ls ms is)) (Refused 24) old old
-    unfolding in_room ◌>>=◌ ◌>>◌ refuse◌when◌
-    put_short w n h short =
-        let t = lt-ltb (room_in old) n short in
-        record { says = rw (h, steps_count n, t); holds = rw (h, steps_count n, t) }
+    pub put_short : (n : ℕ) → w ≡ Ok n → room_in old < n → Lowered (in_room (room_in old) length (held_by w ks bs ls ms is)) (err short_list) old old
+    put_short n h short = let q = held_short (room_in old) h short in record { says = rw q; holds = rw q }
 
-    pub put_whole : (w : Walk) (n : ℕ) → w ≡ Steps n → n ≤ room_in old → {p : ℕ} {new : List ℕ} → Printed (steps_bytes (steps_in ks bs ls ms is n)) old 0 p new
-        → Lowered (in_room (room_in old) length (held_by w ks bs ls ms is)) (Steps n) old new
-    unfolding in_room ◌>>=◌ ◌>>◌ refuse◌when◌
-    put_whole w n h fits x =
-        let t = le-ltb (room_in old) n fits in
+    pub put_whole : (n : ℕ) → w ≡ Ok n → n ≤ room_in old → {p : ℕ} {new : List ℕ} → Printed (steps_bytes (steps_in ks bs ls ms is n)) old 0 p new
+        → Lowered (in_room (room_in old) length (held_by w ks bs ls ms is)) (Ok n) old new
+    put_whole n h fits x =
+        let q = held_whole (room_in old) h fits in
         let z : 0 + n ≡ n = omega arith in
         let c = steps_count n in
         record {
-          says = rw (h, steps_count n, t, steps_count n, z);
-          holds = rw (h, steps_count n, t) (x.bytes ∙ front old (steps_bytes (steps_in ks bs ls ms is n)) (omega (arith, steps_size (steps_in ks bs ls ms is n))));
+          says = rw (q, steps_count n, z);
+          holds = rw q (x.bytes ∙ front old (steps_bytes (steps_in ks bs ls ms is n)) (omega (arith, steps_size (steps_in ks bs ls ms is n))));
         }
 
 -- ---- what a walk left in the lists is what it came to
@@ -121,17 +129,17 @@ module _ (room : ℕ) (cfg : LayoutConfig) (n : ℕ) (types layouts offsets memb
         few = in_room_lem room length _ (passed _ _ (passed _ _ h));
       }
 
-  pub held_is : {w : Walk} {ks bs ls ms is ks' bs' ls' ms' is' : List ℕ} → Wrote 0 (chain_over room cfg n types layouts offsets members op ptr chain) w ks bs ls ms is ks' bs' ls' ms' is'
+  pub held_is : {w : OrRefusal ℕ} {ks bs ls ms is ks' bs' ls' ms' is' : List ℕ} → Wrote 0 (chain_over room cfg n types layouts offsets members op ptr chain) w ks bs ls ms is ks' bs' ls' ms' is'
       → room ≤ room_of ks bs ls ms is → held_by w ks' bs' ls' ms' is' ≡ chain_over room cfg n types layouts offsets members op ptr chain
   held_is {w} {ks} {bs} {ls} {ms} {is} {ks'} {bs'} {ls'} {ms'} {is'} x wide = by (chain_over room cfg n types layouts offsets members op ptr chain) refl x.says x.stored
     where
       by : (o : Result (List QPtrOp)) → chain_over room cfg n types layouts offsets members op ptr chain ≡ o → w ≡ walk_of 0 o → StoredAt 0 (steps_of o) ks bs ls ms is ks' bs' ls' ms' is'
           → held_by w ks' bs' ls' ms' is' ≡ o
-      by (refused e) i h stored = ap (λ (v : Walk). held_by v ks' bs' ls' ms' is') h
+      by (refused e) i h stored = ap (λ (v : OrRefusal ℕ). held_by v ks' bs' ls' ms' is') h
       by (ok steps) i h stored =
           let g = good steps i in
           let z : 0 + length steps ≡ length steps = omega arith in
-          ap (λ (v : Walk). held_by v ks' bs' ls' ms' is') h
+          ap (λ (v : OrRefusal ℕ). held_by v ks' bs' ls' ms' is') h
           ∙ ap (λ (k : ℕ). ok (steps_in ks' bs' ls' ms' is' k)) z
           ∙ ap ok (read_again steps ks bs ls ms is ks' bs' ls' ms' is' g.fit (omega (arith, g.few)) stored)
 
@@ -160,7 +168,7 @@ at_table room table o ptr s f h few p e =
     rw (lt-ltb ptr (count_in table) h, le-ltb 510 (length (words_of s)) (omega arith), le-ltb max_indices (length is) (omega arith), q)
     (sym (room_joined room p (chain_by (setting_in table) (pointee_at (types_in table) (count_in table)) (answers_in (layouts_in table) (count_in table) (places_in table) (members_in table)) o ptr is)))
 
-pub wrote_over : (table : List ℕ) (room : ℕ) (o : ChainOp) (ptr : ℕ) (words : List ℕ) {cfg : LayoutConfig} {n : ℕ} {ty la os me : List ℕ} {r : Walk} {ks bs ls ms is ks' bs' ls' ms' is' : List ℕ}
+pub wrote_over : (table : List ℕ) (room : ℕ) (o : ChainOp) (ptr : ℕ) (words : List ℕ) {cfg : LayoutConfig} {n : ℕ} {ty la os me : List ℕ} {r : OrRefusal ℕ} {ks bs ls ms is ks' bs' ls' ms' is' : List ℕ}
     → n ≡ count_in table → cfg ≡ setting_in table → ty ≡ types_in table → la ≡ layouts_in table → os ≡ places_in table → me ≡ members_in table
     → Wrote 0 (chain_over room cfg n ty la os me o ptr words) r ks bs ls ms is ks' bs' ls' ms' is' → Wrote 0 (chain_of room table o ptr words) r ks bs ls ms is ks' bs' ls' ms' is'
 wrote_over table room o ptr words {r = r} {ks} {bs} {ls} {ms} {is} {ks'} {bs'} {ls'} {ms'} {is'} en ec et el eo em x =
@@ -172,44 +180,40 @@ module _ (table : List ℕ) (op ptr : ℕ) (s : List ℕ) where
   abbrev is : List Index
   is = indices_in (words_of s)
 
-  module _ {r : OpReading} (read : r ≡ op_of op) where
-    pub no_op : r ≡ Unknown → asked_in table op ptr s ≡ refused misread
-    unfolding asked_in ◌>>=◌
-    no_op u = let h : op_of op ≡ Unknown = sym read ∙ u in rw h
+  pub no_op : op_of op ≡ None → asked_in table op ptr s ≡ refused misread
+  unfolding asked_in ◌>>=◌
+  no_op e = rw e
 
-    module _ (o : ChainOp) (is_op : r ≡ Op o) where
-      op_is : op_of op ≡ Op o
-      op_is = sym read ∙ is_op
+  module _ (o : ChainOp) (is_op : op_of op ≡ Some o) where
+    pub not_formed : formed_bytes s ≡ false → asked_in table op ptr s ≡ refused misread
+    unfolding asked_in indices_of ◌>>=◌ ◌>>◌ refuse◌unless◌
+    not_formed f = rw (is_op, f)
 
-      pub not_formed : formed_bytes s ≡ false → asked_in table op ptr s ≡ refused misread
+    module _ (f : formed_bytes s ≡ true) where
+      pub no_type : count_in table ≤ ptr → asked_in table op ptr s ≡ refused misread
       unfolding asked_in indices_of ◌>>=◌ ◌>>◌ refuse◌unless◌
-      not_formed f = rw (op_is, f)
+      no_type h = rw (is_op, f, le-ltb ptr (count_in table) h)
 
-      module _ (f : formed_bytes s ≡ true) where
-        pub no_type : count_in table ≤ ptr → asked_in table op ptr s ≡ refused misread
-        unfolding asked_in indices_of ◌>>=◌ ◌>>◌ refuse◌unless◌
-        no_type h = rw (op_is, f, le-ltb ptr (count_in table) h)
+      pub too_long : ptr < count_in table → 255 < length s / 8 → asked_in table op ptr s ≡ refused oversize
+      unfolding asked_in indices_of ◌>>=◌ ◌>>◌ refuse◌unless◌ refuse◌when◌
+      too_long h g = let c = bytes_count s in rw (is_op, f, lt-ltb ptr (count_in table) h, lt-ltb max_indices (length is) (omega arith))
 
-        pub too_long : ptr < count_in table → 255 < length s / 8 → asked_in table op ptr s ≡ refused oversize
-        unfolding asked_in indices_of ◌>>=◌ ◌>>◌ refuse◌unless◌ refuse◌when◌
-        too_long h g = let c = bytes_count s in rw (op_is, f, lt-ltb ptr (count_in table) h, lt-ltb max_indices (length is) (omega arith))
-
-        pub all_good : ptr < count_in table → length s / 8 ≤ 255 → asked_in table op ptr s ≡ ok o
-        unfolding asked_in indices_of ◌>>=◌ ◌>>◌ refuse◌unless◌ refuse◌when◌
-        all_good h g = let c = bytes_count s in rw (op_is, f, lt-ltb ptr (count_in table) h, le-ltb max_indices (length is) (omega arith))
+      pub all_good : ptr < count_in table → length s / 8 ≤ 255 → asked_in table op ptr s ≡ ok o
+      unfolding asked_in indices_of ◌>>=◌ ◌>>◌ refuse◌unless◌ refuse◌when◌
+      all_good h g = let c = bytes_count s in rw (is_op, f, lt-ltb ptr (count_in table) h, le-ltb max_indices (length is) (omega arith))
 
   -- the steps, once it is known what is asked
   pub by_asked : (room : ℕ) → chain_in room table op ptr s ≡ (asked_in table op ptr s >>= λ o. chain_at room table o ptr is)
   unfolding chain_in asked_in chain_at indices_of ◌>>=◌ ◌>>◌ refuse◌unless◌ refuse◌when◌
   by_asked room = by (op_of op) (formed_bytes s) (ltb ptr (count_in table)) (ltb max_indices (length is)) refl refl refl refl
     where
-      by : (r : OpReading) (f t m : Bool) → op_of op ≡ r → formed_bytes s ≡ f → ltb ptr (count_in table) ≡ t → ltb max_indices (length is) ≡ m
+      by : (r : Option ChainOp) (f t m : Bool) → op_of op ≡ r → formed_bytes s ≡ f → ltb ptr (count_in table) ≡ t → ltb max_indices (length is) ≡ m
           → chain_in room table op ptr s ≡ (asked_in table op ptr s >>= λ o. chain_at room table o ptr is)
-      by Unknown f t m e g h i = rw e
-      by (Op o) false t m e g h i = rw (e, g)
-      by (Op o) true false m e g h i = rw (e, g, h)
-      by (Op o) true true true e g h i = rw (e, g, h, i)
-      by (Op o) true true false e g h i = rw (e, g, h, i)
+      by None f t m e g h i = rw e
+      by (Some o) false t m e g h i = rw (e, g)
+      by (Some o) true false m e g h i = rw (e, g, h)
+      by (Some o) true true true e g h i = rw (e, g, h, i)
+      by (Some o) true true false e g h i = rw (e, g, h, i)
 
   pub was_refused : (room e : ℕ) → asked_in table op ptr s ≡ refused e → chain_in room table op ptr s ≡ refused e
   unfolding ◌>>=◌
@@ -222,9 +226,9 @@ module _ (table : List ℕ) (op ptr : ℕ) (s : List ℕ) where
     pub few : length s / 8 ≤ 255
     pub at_op : (room : ℕ) → chain_in room table op ptr s ≡ chain_at room table o ptr is
 
-  whole_bytes : (is : List Index) → indices_of s ≡ ok is → formed_bytes s ≡ true
+  whole_bytes : (js : List Index) → indices_of s ≡ ok js → formed_bytes s ≡ true
   unfolding indices_of
-  whole_bytes is h = not_refused misread (formed_bytes s) _ h
+  whole_bytes js h = not_refused misread (formed_bytes s) _ h
 
   read_bytes : (js : List Index) → indices_of s ≡ ok js → js ≡ is
   unfolding indices_of
@@ -250,6 +254,9 @@ module _ (table : List ℕ) (op ptr : ℕ) (s : List ℕ) where
   pub steps_by : (room : ℕ) (o : ChainOp) → asked_in table op ptr s ≡ ok o → (p : ℕ) → places (length s / 8) ≡ p → chain_in room table op ptr s ≡ in_room room length (chain_of p table o ptr (words_of s))
   steps_by room o h p e = let g = was_asked o h in g.at_op room ∙ at_table room table o ptr s g.formed g.there g.few p e
 
+-- what `ask` answers
+pub ruleset asking = (no_op, not_formed, no_type, too_long, all_good)
+
 -- which places, by the bytes of the indices
 pub short : (s : List ℕ) → length s ≤ 64 → places (length s / 8) ≡ 9
 short s h = ap (λ (b : Bool). cond {A = ℕ} b 9 256) (le-leb (length s / 8) 8 (omega arith))
@@ -261,25 +268,19 @@ module _ (table : List ℕ) (op ptr : ℕ) (s : List ℕ) {o : ChainOp} (h : ask
   pub at_most : length s ≤ 2040
   at_most = let w = was_asked table op ptr s o h in omega (arith, even s w.formed, w.few)
 
-pub refused_by : {result : Result (List QPtrOp)} (e : ℕ) (old : List ℕ) → result ≡ refused e → Lowered result (Refused e) old old
-refused_by e old h = record { says = rw h; holds = rw h }
-
 -- which it was, of what is answered
-pub is_refused : {r : Result ChainOp} {a : Asked} {e : ℕ} → a ≡ asked_of r → a ≡ asked.Refused e → r ≡ refused e
-is_refused {r} {a} {e} h g = by r (sym h ∙ g)
-  where
-    by : (x : Result ChainOp) → asked_of x ≡ asked.Refused e → x ≡ refused e
-    by (ok o) i = absurd (let z : ◌≡◌ {A = ℕ} 0 1 = cc in omega arith)
-    by (refused n) i = ap refused cc
+pub is_refused : {r : Result ChainOp} {e : Refusal} → in_code r ≡ Err e → r ≡ refused e.number
+is_refused {r = ok o} h = cc
+is_refused {r = refused n} h = cc
 
-pub is_chain : {r : Result ChainOp} {a : Asked} {o : ChainOp} → a ≡ asked_of r → a ≡ asked.Chain o → r ≡ ok o
-is_chain {r} {a} {o} h g = by r (sym h ∙ g)
-  where
-    by : (x : Result ChainOp) → asked_of x ≡ asked.Chain o → x ≡ ok o
-    by (ok p) i = ap ok cc
-    by (refused n) i = absurd (let z : ◌≡◌ {A = ℕ} 0 1 = cc in omega arith)
+pub is_chain : {r : Result ChainOp} {o : ChainOp} → in_code r ≡ Ok o → r ≡ ok o
+is_chain {r = ok p} h = cc
+is_chain {r = refused n} h = cc
 
 -- ---- in the code's own lists
+
+pub zeros_room : (n : ℕ) → room_of (replicate n 0) (replicate n 0) (replicate n 0) (replicate n 0) (replicate n 0) ≡ n
+zeros_room n = omega (arith, length-replicate {A = ℕ} n 0)
 
 module _ (table : List ℕ) (op ptr : ℕ) (s : List ℕ) where
   pub walk_refused : (room e : ℕ) → asked_in table op ptr s ≡ refused e → walk_in room table op ptr s ≡ refused e
@@ -306,74 +307,33 @@ module _ (table : List ℕ) (op ptr : ℕ) (s : List ℕ) where
           size true e = let g = ltb-true 64 (length s) e in long table op ptr s h g ∙ sym (many g)
           size false e = let g = ltb-false 64 (length s) e in short s g ∙ sym (few g)
 
-  pub held_in : (room : ℕ) {w : Walk} {ks bs ls ms is ks' bs' ls' ms' is' : List ℕ} → Wrote 0 (walk_in room table op ptr s) w ks bs ls ms is ks' bs' ls' ms' is'
-      → room ≤ room_of ks bs ls ms is → held_by w ks' bs' ls' ms' is' ≡ walk_in room table op ptr s
-  held_in room {w} {ks} {bs} {ls} {ms} {is} {ks'} {bs'} {ls'} {ms'} {is'} x wide = by (asked_in table op ptr s) refl
+  pub held_in : {room : ℕ} {w : OrRefusal ℕ} {ks bs ls ms is ks' bs' ls' ms' is' : List ℕ} → room_of ks bs ls ms is ≡ room
+      → Wrote 0 (walk_in (room_of ks bs ls ms is) table op ptr s) w ks bs ls ms is ks' bs' ls' ms' is' → held_by w ks' bs' ls' ms' is' ≡ walk_in room table op ptr s
+  held_in {w = w} {ks} {bs} {ls} {ms} {is} {ks'} {bs'} {ls'} {ms'} {is'} wide x = by (asked_in table op ptr s) refl ∙ ap (λ k. walk_in k table op ptr s) wide
     where
+      room : ℕ
+      room = room_of ks bs ls ms is
+
       by : (a : Result ChainOp) → asked_in table op ptr s ≡ a → held_by w ks' bs' ls' ms' is' ≡ walk_in room table op ptr s
       by (refused e) h =
           let q = walk_refused room e h in
-          ap (λ (v : Walk). held_by v ks' bs' ls' ms' is') (x.says ∙ ap (walk_of 0) q) ∙ sym q
+          ap (λ (v : OrRefusal ℕ). held_by v ks' bs' ls' ms' is') (x.says ∙ ap (walk_of 0) q) ∙ sym q
       by (ok o) h =
           let q = walk_chain room o h in
           held_is room (setting_in table) (count_in table) (types_in table) (layouts_in table) (places_in table) (members_in table) o ptr (words_of s)
-          (subst (λ (r : Result (List QPtrOp)). Wrote 0 r w ks bs ls ms is ks' bs' ls' ms' is') q x) wide ∙ sym q
-
-  pub lowered_is : (room : ℕ) {v r : Walk} {old new : List ℕ} {ks bs ls ms is ks' bs' ls' ms' is' : List ℕ} → Wrote 0 (walk_in room table op ptr s) v ks bs ls ms is ks' bs' ls' ms' is'
-      → room ≤ room_of ks bs ls ms is → Lowered (in_room (room_in old) length (held_by v ks' bs' ls' ms' is')) r old new
-      → Lowered (in_room (room_in old) length (walk_in room table op ptr s)) r old new
-  lowered_is room {v} {r} {old} {new} x wide y = subst (λ (o : Result (List QPtrOp)). Lowered (in_room (room_in old) length o) r old new) (held_in room x wide) y
+          (subst (λ (r : Result (List QPtrOp)). Wrote 0 r w ks bs ls ms is ks' bs' ls' ms' is') q x) (omega arith) ∙ sym q
 
   -- what a walk wrote is what was asked
-  pub wrote_refused : (room e : ℕ) {a : Asked} → a ≡ asked_of (asked_in table op ptr s) → a ≡ asked.Refused e → (ks bs ls ms is : List ℕ) → Wrote 0 (walk_in room table op ptr s) (Refused e) ks bs ls ms is ks bs ls ms is
-  wrote_refused room e h g ks bs ls ms is =
-      let q = walk_refused room e (is_refused h g) in
+  pub wrote_refused : (room e : ℕ) → asked_in table op ptr s ≡ refused e → (ks bs ls ms is : List ℕ) → Wrote 0 (walk_in room table op ptr s) (err e) ks bs ls ms is ks bs ls ms is
+  wrote_refused room e h ks bs ls ms is =
+      let q = walk_refused room e h in
       record { says = rw q; stored = rw q record { kinds = refl; bytes = refl; bounds = refl; marks = refl; indices = refl } }
 
-  pub walked_chain : (room : ℕ) {a : Asked} {o : ChainOp} → a ≡ asked_of (asked_in table op ptr s) → a ≡ asked.Chain o → {words : List ℕ} → words ≡ words_of s → {r : ℕ} {ks bs ls ms is ks' bs' ls' ms' is' : List ℕ}
-      → Walked (chain_of room table o ptr words) r ks bs ls ms is ks' bs' ls' ms' is' → Walked (walk_in room table op ptr s) r ks bs ls ms is ks' bs' ls' ms' is'
-  walked_chain room {a} {o} h g e {r} {ks} {bs} {ls} {ms} {is} {ks'} {bs'} {ls'} {ms'} {is'} x =
-      subst (λ (q : Result (List QPtrOp)). Walked q r ks bs ls ms is ks' bs' ls' ms' is')
-      (ap (λ (v : List ℕ). chain_of room table o ptr v) e ∙ sym (walk_chain room o (is_chain h g))) x
+  pub walked_chain : (room : ℕ) {o : ChainOp} → asked_in table op ptr s ≡ ok o → {words : List ℕ} → words ≡ words_of s → {r : OrRefusal ℕ} {ks bs ls ms is ks' bs' ls' ms' is' : List ℕ}
+      → Wrote 0 (chain_of room table o ptr words) r ks bs ls ms is ks' bs' ls' ms' is' → Wrote 0 (walk_in room table op ptr s) r ks bs ls ms is ks' bs' ls' ms' is'
+  walked_chain room {o} h e {r} {ks} {bs} {ls} {ms} {is} {ks'} {bs'} {ls'} {ms'} {is'} x =
+      subst (λ (q : Result (List QPtrOp)). Wrote 0 q r ks bs ls ms is ks' bs' ls' ms' is')
+      (ap (λ (v : List ℕ). chain_of room table o ptr v) e ∙ sym (walk_chain room o h)) x
 
-pub by_result : {a b : Result (List QPtrOp)} {r : Walk} {old new : List ℕ} → a ≡ b → Lowered b r old new → Lowered a r old new
+pub by_result : {a b : Result (List QPtrOp)} {r : OrRefusal ℕ} {old new : List ℕ} → a ≡ b → Lowered b r old new → Lowered a r old new
 by_result {a} {b} {r} {old} {new} e x = subst (λ (o : Result (List QPtrOp)). Lowered o r old new) (sym e) x
-
--- ---- a walk's answer in one word
-
-pub word_steps : (w : Walk) (n : ℕ) → w ≡ Steps n → AtMost 9223372036854775807 w → WordOf n w
-unfolding walk_from
-word_steps w n e h = let k = rw e at h in record { is = rw e; back = rw (e, lt-ltb n 9223372036854775808 (omega (arith, k))) }
-
-pub word_refusal : (w : Walk) (e : ℕ) → w ≡ Refused e → e < 4294967296 → WordOf (9223372036854775808 + e) w
-unfolding walk_from
-word_refusal w e h l = record { is = rw h; back = rw (h, le-ltb (9223372036854775808 + e) 9223372036854775808 (omega arith)) (ap Refused (omega (arith, l))) }
-
-pub walked : {result : Result (List QPtrOp)} {r : ℕ} {w : Walk} {ks bs ls ms is ks' bs' ls' ms' is' : List ℕ} → WordOf r w → Wrote 0 result w ks bs ls ms is ks' bs' ls' ms' is' → Walked result r ks bs ls ms is ks' bs' ls' ms' is'
-walked e x = record { answer = e.is ∙ ap word_of x.says; wrote = record { says = e.back ∙ x.says; stored = x.stored } }
-
--- ---- a walk's steps are as many as its lists hold
-
-fits : (room : ℕ) (cfg : LayoutConfig) (n : ℕ) (types layouts offsets members : List ℕ) (o : ChainOp) (ptr : ℕ) (chain : List ℕ) → AtMost room (walk_of 0 (chain_over room cfg n types layouts offsets members o ptr chain))
-unfolding chain_over
-fits room cfg n types layouts offsets members o ptr chain = by (chain_over room cfg n types layouts offsets members o ptr chain) refl
-  where
-    by : (r : Result (List QPtrOp)) → chain_over room cfg n types layouts offsets members o ptr chain ≡ r → AtMost room (walk_of 0 r)
-    by (refused e) f = tt
-    by (ok steps) f = let k = in_room_lem room length _ (passed _ _ (passed _ _ f)) in omega (arith, k)
-
-wider : (w : Walk) → {a b : ℕ} → a ≤ b → AtMost a w → AtMost b w
-wider (Steps n) h g = omega (arith, h, g)
-wider (Refused e) h g = tt
-
-pub few_steps : (most room : ℕ) (cfg : LayoutConfig) (n : ℕ) (types layouts offsets members : List ℕ) (o : ChainOp) (ptr : ℕ) (chain : List ℕ) {w : Walk} {ks bs ls ms is ks' bs' ls' ms' is' : List ℕ}
-    → Wrote 0 (chain_over room cfg n types layouts offsets members o ptr chain) w ks bs ls ms is ks' bs' ls' ms' is' → room ≤ most → AtMost most w
-few_steps most room cfg n types layouts offsets members o ptr chain {w} x h = wider w h (subst (AtMost room) (sym x.says) (fits room cfg n types layouts offsets members o ptr chain))
-
--- of what is asked
-pub few_asked : (most room : ℕ) (table : List ℕ) (op ptr : ℕ) (s : List ℕ) {w : Walk} {ks bs ls ms is ks' bs' ls' ms' is' : List ℕ} → Wrote 0 (walk_in room table op ptr s) w ks bs ls ms is ks' bs' ls' ms' is' → room ≤ most → AtMost most w
-few_asked most room table op ptr s {w} x h = wider w h (subst (AtMost room) (sym x.says) (by (asked_in table op ptr s) refl))
-  where
-    by : (a : Result ChainOp) → asked_in table op ptr s ≡ a → AtMost room (walk_of 0 (walk_in room table op ptr s))
-    by (refused e) g = subst (λ (r : Result (List QPtrOp)). AtMost room (walk_of 0 r)) (sym (walk_refused table op ptr s room e g)) tt
-    by (ok o) g = subst (λ (r : Result (List QPtrOp)). AtMost room (walk_of 0 r)) (sym (walk_chain table op ptr s room o g)) (fits room (setting_in table) (count_in table) (types_in table) (layouts_in table) (places_in table) (members_in table) o ptr (words_of s))

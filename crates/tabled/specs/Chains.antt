@@ -1,6 +1,7 @@
 -- Document 01, "as C functions on numbers and bytes": C over a table, by the number of the op and the bytes of the indices; the steps are bytes, too.
-use Rattle.std.specs.Prelude.{ℕ, ◌/◌, min, ◌≡◌, cond, List, eqb, leb, ltb, length}
+use Rattle.std.specs.Prelude.{ℕ, ◌/◌, min, ◌≡◌, cond, List, Option, Some, None, eqb, leb, ltb, length}
 use Rattle.arith.specs.Refusals.{Result, ok, refused, ◌>>=◌, ◌>>◌, refuse◌when◌, refuse◌unless◌, in_room, misread, oversize}
+use Rattle.arith.specs.InCode.{OrRefusal}
 use Rattle.spirv.specs.declared.ChainOp.{ChainOp}
 use Rattle.spirv.specs.declared.ChainOp.TheVariants.{AccessChain, InBoundsAccessChain, PtrAccessChain, InBoundsPtrAccessChain}
 use Rattle.spirv.specs.declared.Index.{Index}
@@ -9,28 +10,23 @@ use Rattle.sheet.specs.Tables.{over}
 use Rattle.components.specs.Found.{answers_in}
 use Rattle.lower.specs.declared.QPtrOp.{QPtrOp}
 use Rattle.lower.specs.Chain.{chain_by}
-use Rattle.moves.specs.declared.Walk.{Walk}
 use Rattle.moves.specs.Written.{walk_of, steps_of}
 use Rattle.pointers.specs.OverTables.{pointee_at}
 use Rattle.wire.specs.Wire.{indices_of, steps_bytes}
 use Rattle.flat.specs.Table.{count_in, setting_in, types_in, members_in, places_in, layouts_in}
-use Rattle.tabled.specs.declared.Asked.{Asked}
-use Rattle.tabled.specs.declared.Asked.TheVariants as asked
-use Rattle.tabled.specs.declared.OpReading.{OpReading}
-use Rattle.tabled.specs.declared.OpReading.TheVariants.{Op, Unknown}
 
 -- ---- the op
 
-unfoldable pub op_of : ℕ → OpReading
+unfoldable pub op_of : ℕ → Option ChainOp
 op_of op =
-    cond (eqb op 65) (Op AccessChain)
-    (cond (eqb op 66) (Op InBoundsAccessChain)
-    (cond (eqb op 67) (Op PtrAccessChain)
-    (cond (eqb op 70) (Op InBoundsPtrAccessChain) Unknown)))
+    cond (eqb op 65) (Some AccessChain)
+    (cond (eqb op 66) (Some InBoundsAccessChain)
+    (cond (eqb op 67) (Some PtrAccessChain)
+    (cond (eqb op 70) (Some InBoundsPtrAccessChain) None)))
 
-abbrev pub op_in : OpReading → Result ChainOp
-op_in (Op o) = ok o
-op_in Unknown = refused misread
+abbrev pub op_in : Option ChainOp → Result ChainOp
+op_in (Some o) = ok o
+op_in None = refused misread
 
 -- ---- what is asked
 
@@ -42,10 +38,6 @@ asked_in table op ptr bytes = do
   refuse misread unless ltb ptr (count_in table)
   refuse oversize when ltb max_indices (length is)
   ok o
-
-abbrev pub asked_of : Result ChainOp → Asked
-asked_of (ok o) = asked.Chain o
-asked_of (refused e) = asked.Refused e
 
 -- ---- the steps
 
@@ -74,6 +66,6 @@ abbrev pub room_in : List ℕ → ℕ
 room_in bytes = length bytes / 20
 
 -- the answer, and the steps in front of what the list held; a refusal leaves it as it was
-pub record Lowered (result : Result (List QPtrOp)) (r : Walk) (old new : List ℕ) : Type 0 where
+pub record Lowered (result : Result (List QPtrOp)) (r : OrRefusal ℕ) (old new : List ℕ) : Type 0 where
   pub says : r ≡ walk_of 0 result
   pub holds : new ≡ over (steps_bytes (steps_of result)) old

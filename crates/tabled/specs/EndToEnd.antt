@@ -1,21 +1,18 @@
 -- Document 01, the third demand, from a sheet's bytes to the bytes of the steps, through one table: `end_to_end`.
-use Rattle.std.specs.Prelude.{ℕ, ◌*◌, ◌≤◌, ◌≡◌, List, length, take}
+use Rattle.std.specs.Prelude.{ℕ, ◌*◌, ◌≤◌, ◌≡◌, List, Some, Ok, length, take}
 use Rattle.std.proofs.Math.Option.{some}
 use Rattle.std.proofs.Math.ListN.{get_elem?}
 use Rattle.arith.specs.Refusals.{ok}
+use Rattle.arith.specs.InCode.{OrRefusal}
 use Rattle.spirv.specs.declared.ChainOp.{ChainOp}
 use Rattle.spirv.specs.declared.Index.{Index}
 use Rattle.sheet.specs.Sheet.{Sheet, max_indices, read_sheet}
 use Rattle.sheet.specs.Statements.{All}
-use Rattle.reading.specs.declared.SheetAnswer.TheVariants.{Types}
 use Rattle.lower.specs.declared.QPtrOp.{QPtrOp}
 use Rattle.lower.specs.Chain.{chain_in_room}
-use Rattle.moves.specs.declared.Walk.{Walk}
-use Rattle.moves.specs.declared.Walk.TheVariants.{Steps}
 use Rattle.wire.specs.Wire.{Byte, indices_of, steps_bytes, step_no}
 use Rattle.joined.specs.EndToEnd.{Kept}
 use Rattle.flat.specs.Reads.{ReadsTable}
-use Rattle.tabled.specs.declared.OpReading.TheVariants.{Op}
 use Rattle.tabled.specs.Chains.{op_of, chain_in, room_in, Lowered}
 
 -- the lists that two calls were lent, and what they held afterwards, as the contracts of these calls say
@@ -24,17 +21,17 @@ pub record Calls (input : List ℕ) (op ptr : ℕ) (chain : List ℕ) : Type 0 w
   pub table₀ : List ℕ
   pub table : List ℕ
   pub n : ℕ
-  pub read : ReadsTable input (Types n) table₀ table
+  pub read : ReadsTable input (Ok n) table₀ table
   -- `lower_chain` gave this answer
   pub out₀ : List ℕ
   pub out : List ℕ
-  pub answer : Walk
+  pub answer : OrRefusal ℕ
   pub lowered : Lowered (chain_in (room_in out₀) table op ptr chain) answer out₀ out
 
 -- steps that keep demand 3 for the op and the indices that were asked
 pub record KeptSteps (s : Sheet) (op ptr : ℕ) (chain : List ℕ) (steps : List QPtrOp) : Type 0 where
   pub asked : ChainOp
-  pub by_number : op_of op ≡ Op asked
+  pub by_number : op_of op ≡ Some asked
   pub indices : List Index
   pub by_bytes : indices_of chain ≡ ok indices
   pub kept : Kept s asked ptr indices steps
@@ -54,9 +51,9 @@ pub record Carried (input : List ℕ) (op ptr : ℕ) (chain : List ℕ) (c : Cal
   pub sheet : Sheet
   pub is_sheet : read_sheet input ≡ ok sheet
   pub types : c.n ≡ length sheet.types
-  pub answered : (o : ChainOp) (is : List Index) → op_of op ≡ Op o → indices_of chain ≡ ok is → length is ≤ max_indices
+  pub answered : (o : ChainOp) (is : List Index) → op_of op ≡ Some o → indices_of chain ≡ ok is → length is ≤ max_indices
       → Lowered (chain_in_room (room_in c.out₀) sheet o ptr is) c.answer c.out₀ c.out
-  pub kept : (count : ℕ) → c.answer ≡ Steps count → KeptBytes sheet op ptr chain c.out count
+  pub kept : (count : ℕ) → c.answer ≡ Ok count → KeptBytes sheet op ptr chain c.out count
 
 abbrev pub EndToEnd : Type 0
 EndToEnd = (input : List ℕ) (op ptr : ℕ) (chain : List ℕ) (c : Calls input op ptr chain) → Carried input op ptr chain c

@@ -1,207 +1,124 @@
 // Chains lowered over a table: indices come in as bytes, and steps go out as bytes.
 #![tactic(auto)]
 
-ghost use Rattle.std.specs.Prelude.{◌≡◌, ◌/◌, ◌≤◌, length};
+ghost use Rattle.std.specs.Prelude.{◌≡◌, ◌+◌, ◌*◌, ◌≤◌, min, length};
 ghost use Rattle.arith.specs.Refusals.{in_room};
+ghost use Rattle.arith.specs.InCode.{in_code};
+ghost use Rattle.moves.specs.Written.{Wrote};
 ghost use Rattle.chain.specs.Chains.{room_of};
-ghost use Rattle.tabled.specs.Chains.{op_of, asked_in, asked_of, chain_in, room_in, Lowered};
-ghost use Rattle.tabled.specs.InCode.{chain_of, walk_in, held_by, AtMost, walk_from, WordOf, Walked};
+ghost use Rattle.tabled.specs.Chains.{op_of, asked_in, chain_in, room_in, Lowered};
+ghost use Rattle.tabled.specs.InCode.{walk_in, held_by};
 
-use moves::Walk;
-use shapes::{LayoutConfig, rows};
+use arith::refusal::Refusal;
 use spirv::ChainOp;
 
 // The op that a number is, if it is one.
-#[derive(Clone, Copy)]
-pub enum OpReading {
-    Op(ChainOp),
-    Unknown,
-}
-
-fn op_of(op: u32) -> OpReading
+#[tactic(auto, unfolding(crate::specs::Chains::op_of))]
+fn op_of(op: u32) -> Option<ChainOp>
     ensures { result ≡ op_of op }
 {
-    if op == 65 {
-        return OpReading::Op(ChainOp::AccessChain);
+    match op {
+        65 => Some(ChainOp::AccessChain),
+        66 => Some(ChainOp::InBoundsAccessChain),
+        67 => Some(ChainOp::PtrAccessChain),
+        70 => Some(ChainOp::InBoundsPtrAccessChain),
+        _ => None,
     }
-    if op == 66 {
-        return OpReading::Op(ChainOp::InBoundsAccessChain);
-    }
-    if op == 67 {
-        return OpReading::Op(ChainOp::PtrAccessChain);
-    }
-    if op == 70 {
-        return OpReading::Op(ChainOp::InBoundsPtrAccessChain);
-    }
-    OpReading::Unknown
 }
 
 // What is asked: a chain of an op, from a type that the table has, by at most 255 indices; or why not.
-#[derive(Clone, Copy)]
-pub enum Asked {
-    Chain(ChainOp),
-    Refused(u32),
-}
-
-pub fn ask(table: &[u32], op: u32, ptr: u32, chain: &[u8]) -> Asked
-    ensures { result ≡ asked_of (asked_in table.now op ptr chain.now) }
+#[tactic(auto, using(crate::proofs::Laws::asking))]
+pub fn ask(table: &[u32], op: u32, ptr: u32, chain: &[u8]) -> Result<ChainOp, Refusal>
+    ensures { result ≡ in_code (asked_in table.now op ptr chain.now) }
 {
-    match op_of(op) {
-        OpReading::Unknown => Asked::Refused(1),
-        OpReading::Op(o) => {
-            if !wire::formed(chain) {
-                return Asked::Refused(1);
-            }
-            if spirv::word_at(table, 0) <= ptr {
-                return Asked::Refused(1);
-            }
-            if 255 < chain.len() / 8 {
-                return Asked::Refused(2);
-            }
-            Asked::Chain(o)
-        }
+    let asked = op_of(op).ok_or(Refusal::MISREAD)?;
+    if !wire::formed(chain) {
+        return Err(Refusal::MISREAD);
     }
-}
-
-// ---- a walk's answer in one word: a word comes back in a register, an enum in memory that is copied at each call
-
-const REFUSAL: u64 = 9_223_372_036_854_775_808;
-
-fn to_word(w: Walk) -> u64
-    requires { AtMost 9223372036854775807 w }
-    ensures { WordOf result w }
-{
-    match w {
-        Walk::Steps(n) => n as u64,
-        Walk::Refused(e) => REFUSAL + e as u64,
+    if spirv::word_at(table, 0) <= ptr {
+        return Err(Refusal::MISREAD);
     }
-}
-
-pub fn from_word(r: u64) -> Walk
-    ensures { result ≡ walk_from r }
-{
-    if r < REFUSAL {
-        return Walk::Steps(r as usize);
+    if 255 < chain.len() / 8 {
+        return Err(Refusal::OVERSIZE);
     }
-    Walk::Refused(((r - REFUSAL) % 4_294_967_296) as u32)
+    Ok(asked)
 }
 
 // ---- into five lists
 
-// The steps of a chain over a table, by the words of its indices, into five lists; the answer is a word.
-fn walk(
+// The steps of what is asked into five lists; the indices' words are read into a list of WORDS, which is cleared: a short chain has a short one.
+pub fn walk_asked<const WORDS: usize>(
     table: &[u32],
-    op: ChainOp,
+    op: u32,
     ptr: u32,
-    chain: &[u32],
+    chain: &[u8],
     kinds: &mut [u32],
     bytes: &mut [u32],
     bounds: &mut [u32],
     marks: &mut [u32],
     indices: &mut [u32],
-) -> u64
-    ensures { Walked (chain_of (room_of kinds.old bytes.old bounds.old marks.old indices.old) table.now op ptr chain.now) result kinds.old bytes.old bounds.old marks.old indices.old kinds.new bytes.new bounds.new marks.new indices.new }
+) -> Result<usize, Refusal>
+    requires held { min (length chain.now) 2040 ≤ 4 * WORDS }
+    requires few { WORDS ≤ 510 }
+    ensures { Wrote 0 (walk_in (room_of kinds.old bytes.old bounds.old marks.old indices.old) table.now op ptr chain.now) result kinds.old bytes.old bounds.old marks.old indices.old kinds.new bytes.new bounds.new marks.new indices.new }
 {
-    let n = spirv::word_at(table, 0);
-    let cfg = shapes::words::setting_of(rows::span(table, 1, 6));
-    let types = rows::span(table, 7, 1536);
-    let members = rows::span(table, 1543, 1024);
-    let offsets = rows::span(table, 3591, 1024);
-    let layouts = rows::span(table, 4615, 2560);
-    to_word(lowering::lower_access_chain(
-        cfg, n, types, layouts, offsets, members, op, ptr, chain, kinds, bytes, bounds, marks,
+    let asked = ask(table, op, ptr, chain)?;
+    let mut words = [0u32; WORDS];
+    words::read_words(chain, &mut words);
+    lowering::lower_access_chain(
+        &flat::tables_in(table),
+        asked,
+        ptr,
+        &words[..chain.len() / 4],
+        kinds,
+        bytes,
+        bounds,
+        marks,
         indices,
-    ))
-}
-
-// The steps of what is asked into five lists, by at most 8 indices: few words are cleared for them.
-pub fn walk_few(
-    table: &[u32],
-    op: u32,
-    ptr: u32,
-    chain: &[u8],
-    kinds: &mut [u32],
-    bytes: &mut [u32],
-    bounds: &mut [u32],
-    marks: &mut [u32],
-    indices: &mut [u32],
-) -> u64
-    requires { length chain.now ≤ 64 }
-    ensures { Walked (walk_in (room_of kinds.old bytes.old bounds.old marks.old indices.old) table.now op ptr chain.now) result kinds.old bytes.old bounds.old marks.old indices.old kinds.new bytes.new bounds.new marks.new indices.new }
-{
-    match ask(table, op, ptr, chain) {
-        Asked::Refused(e) => to_word(Walk::Refused(e)),
-        Asked::Chain(o) => {
-            let mut few = [0u32; 16];
-            words::read_words(chain, &mut few);
-            let words = rows::span(&few, 0, (chain.len() / 4) as u32);
-            walk(table, o, ptr, words, kinds, bytes, bounds, marks, indices)
-        }
-    }
-}
-
-// The steps of what is asked into five lists, by at most 255 indices.
-pub fn walk_many(
-    table: &[u32],
-    op: u32,
-    ptr: u32,
-    chain: &[u8],
-    kinds: &mut [u32],
-    bytes: &mut [u32],
-    bounds: &mut [u32],
-    marks: &mut [u32],
-    indices: &mut [u32],
-) -> u64
-    ensures { Walked (walk_in (room_of kinds.old bytes.old bounds.old marks.old indices.old) table.now op ptr chain.now) result kinds.old bytes.old bounds.old marks.old indices.old kinds.new bytes.new bounds.new marks.new indices.new }
-{
-    match ask(table, op, ptr, chain) {
-        Asked::Refused(e) => to_word(Walk::Refused(e)),
-        Asked::Chain(o) => {
-            let mut many = [0u32; 510];
-            words::read_words(chain, &mut many);
-            let words = rows::span(&many, 0, (chain.len() / 4) as u32);
-            walk(table, o, ptr, words, kinds, bytes, bounds, marks, indices)
-        }
-    }
+    )
 }
 
 // ---- as bytes
 
 // The steps that a walk left in five lists, as bytes; 24 where these don't fit.
 fn put(
-    w: u64,
+    walk: Result<usize, Refusal>,
     kinds: &[u32],
     bytes: &[u32],
     bounds: &[u32],
     marks: &[u32],
     indices: &[u32],
     out: &mut [u8],
-) -> Walk
-    ensures { Lowered (in_room (room_in out.old) length (held_by (walk_from w) kinds.now bytes.now bounds.now marks.now indices.now)) result out.old out.new }
+) -> Result<usize, Refusal>
+    ensures { Lowered (in_room (room_in out.old) length (held_by walk kinds.now bytes.now bounds.now marks.now indices.now)) result out.old out.new }
 {
-    match from_word(w) {
-        Walk::Refused(e) => Walk::Refused(e),
-        Walk::Steps(n) => {
-            if out.len() / 20 < n {
-                return Walk::Refused(24);
-            }
-            wire::put_steps(out, 0, kinds, bytes, bounds, marks, indices, n);
-            Walk::Steps(n)
-        }
+    let n = walk?;
+    if out.len() / 20 < n {
+        return Err(Refusal::SHORT_LIST);
     }
+    wire::put_steps(out, 0, kinds, bytes, bounds, marks, indices, n);
+    Ok(n)
 }
 
-// At most 8 indices: little is cleared for them.
-fn lower_few(table: &[u32], op: u32, ptr: u32, chain: &[u8], out: &mut [u8]) -> Walk
-    requires { length chain.now ≤ 64 }
-    ensures { Lowered (in_room (room_in out.old) length (walk_in 9 table.now op ptr chain.now)) result out.old out.new }
+// In lists of so many steps and words, which are cleared.
+fn lower<const STEPS: usize, const WORDS: usize>(
+    table: &[u32],
+    op: u32,
+    ptr: u32,
+    chain: &[u8],
+    out: &mut [u8],
+) -> Result<usize, Refusal>
+    requires held { min (length chain.now) 2040 ≤ 4 * WORDS }
+    requires few { WORDS ≤ 510 }
+    requires tied { WORDS + 2 ≡ 2 * STEPS }
+    ensures { Lowered (in_room (room_in out.old) length (walk_in STEPS table.now op ptr chain.now)) result out.old out.new }
 {
-    let mut kinds = [0u32; 9];
-    let mut bytes = [0u32; 9];
-    let mut bounds = [0u32; 9];
-    let mut marks = [0u32; 9];
-    let mut indices = [0u32; 9];
-    let w = walk_few(
+    let mut kinds = [0u32; STEPS];
+    let mut bytes = [0u32; STEPS];
+    let mut bounds = [0u32; STEPS];
+    let mut marks = [0u32; STEPS];
+    let mut indices = [0u32; STEPS];
+    let walk = walk_asked::<WORDS>(
         table,
         op,
         ptr,
@@ -212,38 +129,24 @@ fn lower_few(table: &[u32], op: u32, ptr: u32, chain: &[u8], out: &mut [u8]) -> 
         &mut marks,
         &mut indices,
     );
-    put(w, &kinds, &bytes, &bounds, &marks, &indices, out)
+    put(walk, &kinds, &bytes, &bounds, &marks, &indices, out)
 }
 
-// At most 255 indices.
-fn lower_many(table: &[u32], op: u32, ptr: u32, chain: &[u8], out: &mut [u8]) -> Walk
-    ensures { Lowered (in_room (room_in out.old) length (walk_in 256 table.now op ptr chain.now)) result out.old out.new }
-{
-    let mut kinds = [0u32; 256];
-    let mut bytes = [0u32; 256];
-    let mut bounds = [0u32; 256];
-    let mut marks = [0u32; 256];
-    let mut indices = [0u32; 256];
-    let w = walk_many(
-        table,
-        op,
-        ptr,
-        chain,
-        &mut kinds,
-        &mut bytes,
-        &mut bounds,
-        &mut marks,
-        &mut indices,
-    );
-    put(w, &kinds, &bytes, &bounds, &marks, &indices, out)
-}
+// The bytes of 8 indices, for which short lists suffice.
+pub const SHORT_CHAIN: usize = 64;
 
 // The steps of a chain into `out`, 20 bytes each, and how many; or the refusal, and `out` as it was.
-pub fn lower_chain(table: &[u32], op: u32, ptr: u32, chain: &[u8], out: &mut [u8]) -> Walk
+pub fn lower_chain(
+    table: &[u32],
+    op: u32,
+    ptr: u32,
+    chain: &[u8],
+    out: &mut [u8],
+) -> Result<usize, Refusal>
     ensures { Lowered (chain_in (room_in out.old) table.now op ptr chain.now) result out.old out.new }
 {
-    if chain.len() <= 64 {
-        return lower_few(table, op, ptr, chain, out);
+    if chain.len() <= SHORT_CHAIN {
+        return lower::<9, 16>(table, op, ptr, chain, out);
     }
-    lower_many(table, op, ptr, chain, out)
+    lower::<256, 510>(table, op, ptr, chain, out)
 }

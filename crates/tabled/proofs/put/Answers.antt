@@ -1,16 +1,15 @@
 -- `tabled::put` meets its contract: the steps of a walk, or its refusal, or 24. Assumes nothing.
-use mathlib.Core.Path.{sym, ◌∙◌}
+use Rattle.std.proofs.lemmas.Result.{err_from_is_err_and}
 use Rattle.tabled.proofs.Laws.{put_refused, put_short, put_whole}
 use Rattle.tabled.proofs.put.Goals as goal
 
--- src/lib.rt:196:17
+pub returns-in_err-n : goal.returns-in_err-n
+returns-in_err-n c =
+    let p = err_from_is_err_and c.from_residual.result c.from_residual.ensures.1 in
+    rw (p.1, p.2) (put_refused _ _ _ _ _ _ c.in_err-n.was)
+
 pub returns-then-out-n : goal.returns-then-out-n
-returns-then-out-n c = put_short _ _ _ _ _ _ _ _ (sym c.from_word.ensures ∙ c.in-Steps.is) c.if-out-n.true
+returns-then-out-n c = put_short _ _ _ _ _ _ _ c.in_ok-n.was c.if-out-n.true
 
--- src/lib.rt:181:1
-pub returns-in-Refused : goal.returns-in-Refused
-returns-in-Refused c = put_refused _ _ _ _ _ _ _ _ (sym c.from_word.ensures ∙ c.in-Refused.is)
-
--- src/lib.rt:181:1
-pub returns-else-out-n : goal.returns-else-out-n
-returns-else-out-n c = put_whole _ _ _ _ _ _ _ _ (sym c.from_word.ensures ∙ c.in-Steps.is) c.if-out-n.false c.put_steps.ensures
+pub returns : goal.returns
+returns c = put_whole _ _ _ _ _ _ _ c.in_ok-n.was c.if-out-n.false c.put_steps.ensures
