@@ -1,6 +1,7 @@
 -- From a sheet's bytes to records, and that the records are the steps of the byte form: both by citing tabled. Assumes nothing.
 use Prim.Native.Nat.{ℕ, zero, suc, ◌+◌, ◌*◌, ◌<◌, ◌≤◌}
 use native.Mathlib.Omega.{arith}
+use Rattle.std.specs.Prelude.{Some}
 use mathlib.Core.Path.{◌≡◌, refl, sym, ap, ◌∙◌, subst}
 use mathlib.Core.List.{List, [], ◌∷◌, map}
 use lib.IntN.{pos, neg_ℤ}
@@ -16,7 +17,6 @@ use Rattle.moves.specs.Written.{walk_of, steps_of}
 use Rattle.sheet.specs.Tables.{over}
 use Rattle.wire.specs.Wire.{indices_of, steps_bytes}
 use Rattle.flat.proofs.Parts.{Read, was_read}
-use Rattle.tabled.specs.declared.OpReading.TheVariants.{Op}
 use Rattle.tabled.specs.Chains.{op_of, chain_in}
 use Rattle.tabled.proofs.Laws.{steps_size}
 use Rattle.tabled.proofs.EndToEnd.{in_sheet, kept_steps, chain_above}
@@ -45,7 +45,7 @@ module _ (input : List ℕ) (op ptr : ℕ) (chain : List ℕ) (c : Calls input o
   r : Read input c.table c.n
   r = was_read input c.n c.table₀ c.table c.read
 
-  answered : (o : ChainOp) (is : List Index) → op_of op ≡ Op o → indices_of chain ≡ ok is → length is ≤ max_indices
+  answered : (o : ChainOp) (is : List Index) → op_of op ≡ Some o → indices_of chain ≡ ok is → length is ≤ max_indices
       → Recorded (chain_in_room (length c.old) r.sheet o ptr is) c.answer c.old c.new
   answered o is eo ei few = subst (λ (x : Result (List QPtrOp)). Recorded x c.answer c.old c.new) (in_sheet r op ptr chain (length c.old) o is eo ei few) c.lowered
 

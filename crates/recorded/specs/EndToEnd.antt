@@ -1,17 +1,14 @@
 -- Document 01, the third demand, from a sheet's bytes to a lent list of step records, through one table: `end_to_end`; and that the records are the steps that the bytes of `lower_chain` hold: `same_steps`.
-use Rattle.std.specs.Prelude.{ℕ, ◌*◌, ◌≤◌, ◌≡◌, List, map, ℤ, pos, neg_ℤ, length, take}
+use Rattle.std.specs.Prelude.{ℕ, ◌*◌, ◌≤◌, ◌≡◌, List, Some, Ok, Err, map, ℤ, pos, neg_ℤ, length, take}
 use Rattle.arith.specs.Refusals.{ok}
+use Rattle.arith.specs.InCode.{OrRefusal}
 use Rattle.spirv.specs.declared.ChainOp.{ChainOp}
 use Rattle.spirv.specs.declared.Index.{Index}
 use Rattle.sheet.specs.Sheet.{Sheet, max_indices, read_sheet}
-use Rattle.reading.specs.declared.SheetAnswer.TheVariants.{Types}
 use Rattle.lower.specs.declared.QPtrOp.{QPtrOp}
 use Rattle.lower.specs.Chain.{chain_in_room}
-use Rattle.moves.specs.declared.Walk.{Walk}
-use Rattle.moves.specs.declared.Walk.TheVariants.{Steps, Refused}
 use Rattle.wire.specs.Wire.{indices_of, steps_bytes}
 use Rattle.flat.specs.Reads.{ReadsTable}
-use Rattle.tabled.specs.declared.OpReading.TheVariants.{Op}
 use Rattle.tabled.specs.Chains.{op_of, chain_in, room_in, Lowered}
 use Rattle.tabled.specs.EndToEnd.{KeptSteps}
 use Rattle.recorded.specs.declared.QPtrChainStep.{QPtrChainStep}
@@ -25,7 +22,7 @@ pub record Calls (input : List ℕ) (op ptr : ℕ) (chain : List ℕ) : Type 0 w
   pub table₀ : List ℕ
   pub table : List ℕ
   pub n : ℕ
-  pub read : ReadsTable input (Types n) table₀ table
+  pub read : ReadsTable input (Ok n) table₀ table
   -- `lower_access_chain` gave this answer
   pub old : List QPtrChainStep
   pub new : List QPtrChainStep
@@ -46,7 +43,7 @@ pub record Carried (input : List ℕ) (op ptr : ℕ) (chain : List ℕ) (c : Cal
   pub sheet : Sheet
   pub is_sheet : read_sheet input ≡ ok sheet
   pub types : c.n ≡ length sheet.types
-  pub answered : (o : ChainOp) (is : List Index) → op_of op ≡ Op o → indices_of chain ≡ ok is → length is ≤ max_indices
+  pub answered : (o : ChainOp) (is : List Index) → op_of op ≡ Some o → indices_of chain ≡ ok is → length is ≤ max_indices
       → Recorded (chain_in_room (length c.old) sheet o ptr is) c.answer c.old c.new
   pub kept : (count : ℕ) → c.answer ≡ pos count → KeptRecords sheet op ptr chain c.new count
   pub untouched : ((count : ℕ) → c.answer ≡ pos count → ⊥) → c.new ≡ c.old
@@ -57,16 +54,16 @@ EndToEnd = (input : List ℕ) (op ptr : ℕ) (chain : List ℕ) (c : Calls input
 -- ---- the bytes of `lower_chain`
 
 -- a walk's answer as one number
-abbrev pub number_of : Walk → ℤ
-number_of (Steps n) = pos n
-number_of (Refused e) = neg_ℤ (pos e)
+abbrev pub number_of : OrRefusal ℕ → ℤ
+number_of (Ok n) = pos n
+number_of (Err e) = neg_ℤ (pos e.number)
 
 -- the same answer, and where it is a count, the same steps
-pub record Same (w : Walk) (bytes : List ℕ) (answer : ℤ) (records : List QPtrChainStep) : Type 0 where
+pub record Same (w : OrRefusal ℕ) (bytes : List ℕ) (answer : ℤ) (records : List QPtrChainStep) : Type 0 where
   pub says : answer ≡ number_of w
-  pub steps : (n : ℕ) → w ≡ Steps n → take (20 * n) bytes ≡ steps_bytes (map step_of (take n records))
+  pub steps : (n : ℕ) → w ≡ Ok n → take (20 * n) bytes ≡ steps_bytes (map step_of (take n records))
 
 -- of the same table, op, type and indices, in the same room
 abbrev pub SameSteps : Type 0
-SameSteps = (table : List ℕ) (op ptr : ℕ) (chain : List ℕ) (w : Walk) (bytes bytes' : List ℕ) (answer : ℤ) (old new : List QPtrChainStep) → room_in bytes ≡ length old
+SameSteps = (table : List ℕ) (op ptr : ℕ) (chain : List ℕ) (w : OrRefusal ℕ) (bytes bytes' : List ℕ) (answer : ℤ) (old new : List QPtrChainStep) → room_in bytes ≡ length old
     → Lowered (chain_in (room_in bytes) table op ptr chain) w bytes bytes' → Recorded (chain_in (length old) table op ptr chain) answer old new → Same w bytes' answer new

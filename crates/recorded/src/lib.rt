@@ -1,22 +1,22 @@
-// Steps of a chain as records, in a slice of records that the caller lends. Each function that has the slice only passes it on or stores what
-// another made; what decides and computes stands apart from it.
+// Steps of a chain as records, in a slice of records that the caller lends.
 #![tactic(auto)]
 
-ghost use Rattle.std.specs.Prelude.{◌≡◌, ◌<◌, ◌≤◌, pos, neg_ℤ, length};
+ghost use Rattle.std.specs.Prelude.{◌≡◌, ◌+◌, ◌*◌, ◌≤◌, min, pos, neg_ℤ, length};
+ghost use Rattle.arith.specs.Refusals.{in_room};
 ghost use Rattle.steps.specs.Lists.{step_at, steps_in};
-ghost use Rattle.chain.specs.Chains.{room_of};
 ghost use Rattle.tabled.specs.Chains.{chain_in};
-ghost use Rattle.tabled.specs.InCode.{AtMost, walk_from};
+ghost use Rattle.tabled.specs.InCode.{walk_in, held_by};
 ghost use Rattle.recorded.specs.Records.{indexed, record_of, records_over, Recorded};
-ghost use Rattle.recorded.specs.Held.{fit_of, Holds};
+ghost use Rattle.recorded.specs.Held.{Held};
 
+use arith::refusal::Refusal;
 use lower::QPtrOp;
-use moves::Walk;
 use spirv::Index;
 
 // Op 1 is H, 2 B, 3 O, 4 D. The bytes are a constant offset's. An index of kind 0 is known, one of kind 1 not. What a step does not have is 0.
+// Op and kind are words, and no enums, since C reads them.
 #[repr(C)]
-#[derive(Clone, Copy)]
+#[derive(Clone, Copy, Default)]
 pub struct QPtrChainStep {
     pub op: u32,
     pub bytes: i32,
@@ -31,26 +31,21 @@ pub struct QPtrChainStep {
 fn with_index(op: u32, stride: u32, length: u32, i: Index) -> QPtrChainStep
     ensures { result ≡ indexed op stride length i }
 {
-    match i {
-        Index::Known(w) => QPtrChainStep {
-            op,
-            bytes: 0,
-            stride,
-            length,
-            index_kind: 0,
-            index: w,
-        },
-        Index::Unknown(v) => QPtrChainStep {
-            op,
-            bytes: 0,
-            stride,
-            length,
-            index_kind: 1,
-            index: v,
-        },
+    let (index_kind, index) = match i {
+        Index::Known(w) => (0, w),
+        Index::Unknown(v) => (1, v),
+    };
+    QPtrChainStep {
+        op,
+        stride,
+        length,
+        index_kind,
+        index,
+        ..QPtrChainStep::default()
     }
 }
 
+#[tactic(auto, unfolding(crate::specs::Records::record_of))]
 pub fn record_of(s: QPtrOp) -> QPtrChainStep
     ensures { result ≡ record_of s }
 {
@@ -58,19 +53,12 @@ pub fn record_of(s: QPtrOp) -> QPtrChainStep
         QPtrOp::HandleArrayIndex { index } => with_index(1, 0, 0, index),
         QPtrOp::BufferData => QPtrChainStep {
             op: 2,
-            bytes: 0,
-            stride: 0,
-            length: 0,
-            index_kind: 0,
-            index: 0,
+            ..QPtrChainStep::default()
         },
-        QPtrOp::Offset(z) => QPtrChainStep {
+        QPtrOp::Offset(bytes) => QPtrChainStep {
             op: 3,
-            bytes: z,
-            stride: 0,
-            length: 0,
-            index_kind: 0,
-            index: 0,
+            bytes,
+            ..QPtrChainStep::default()
         },
         QPtrOp::DynOffset {
             stride,
@@ -80,52 +68,15 @@ pub fn record_of(s: QPtrOp) -> QPtrChainStep
     }
 }
 
-// ---- how many are written, and what is answered
-
-#[derive(Clone, Copy)]
-pub struct Fit {
-    pub n: usize,
-    pub answer: i64,
-}
-
-// Minus the number of a refusal.
-pub fn refusal(e: u32) -> i64
-    ensures { result ≡ neg_ℤ (pos e) }
-{
-    0 - e as i64
-}
-
-// All steps of a walk, or none where it is refused or there is no room for all.
-fn fit_in(room: usize, w: u64) -> Fit
-    requires { AtMost 256 (walk_from w) }
-    ensures { result ≡ fit_of room (walk_from w) }
-{
-    match tabled::from_word(w) {
-        Walk::Refused(e) => Fit {
-            n: 0,
-            answer: refusal(e),
-        },
-        Walk::Steps(n) => {
-            if room < n {
-                return Fit { n: 0, answer: -24 };
-            }
-            Fit {
-                n,
-                answer: n as i64,
-            }
-        }
-    }
-}
-
 // ---- the records of the steps that five lists hold
 
-fn record_at<'a>(
+fn record_at(
     i: usize,
-    kinds: &'a [u32],
-    bytes: &'a [u32],
-    bounds: &'a [u32],
-    marks: &'a [u32],
-    indices: &'a [u32],
+    kinds: &[u32],
+    bytes: &[u32],
+    bounds: &[u32],
+    marks: &[u32],
+    indices: &[u32],
 ) -> QPtrChainStep
     ensures { result ≡ record_of (step_at kinds.now bytes.now bounds.now marks.now indices.now i) }
 {
@@ -133,68 +84,67 @@ fn record_at<'a>(
 }
 
 // The first n into the slice.
-fn write_records<'s, 'a>(
-    steps: &'s mut [QPtrChainStep],
+fn write_records(
+    steps: &mut [QPtrChainStep],
     n: usize,
-    kinds: &'a [u32],
-    bytes: &'a [u32],
-    bounds: &'a [u32],
-    marks: &'a [u32],
-    indices: &'a [u32],
+    kinds: &[u32],
+    bytes: &[u32],
+    bounds: &[u32],
+    marks: &[u32],
+    indices: &[u32],
 )
     requires { n ≤ length steps.old }
     ensures { steps.new ≡ records_over (steps_in kinds.now bytes.now bounds.now marks.now indices.now n) steps.old }
 {
-    let mut i: usize = 0;
-    while i < n {
+    for i in 0..n {
         steps[i] = record_at(i, kinds, bytes, bounds, marks, indices);
-        i += 1;
     }
 }
 
-// ---- at most 8 indices
-
-// The steps of a chain in five lists, how many of them are written, and the answer.
-fn fit_few<'a, 'k>(
-    room: usize,
-    op: u32,
-    ptr: u32,
-    table: &'a [u32],
-    chain: &'a [u8],
-    kinds: &'k mut [u32],
-    bytes: &'k mut [u32],
-    bounds: &'k mut [u32],
-    marks: &'k mut [u32],
-    indices: &'k mut [u32],
-) -> Fit
-    requires { (length chain.now ≤ 64) × (room_of kinds.old bytes.old bounds.old marks.old indices.old ≡ 9) }
-    ensures { Holds (chain_in room table.now op ptr chain.now) result.n result.answer kinds.new bytes.new bounds.new marks.new indices.new }
+// The steps that a walk left in five lists, as records; 24 where these don't fit.
+fn put(
+    walk: Result<usize, Refusal>,
+    kinds: &[u32],
+    bytes: &[u32],
+    bounds: &[u32],
+    marks: &[u32],
+    indices: &[u32],
+    steps: &mut [QPtrChainStep],
+) -> Result<usize, Refusal>
+    ensures { Held (in_room (length steps.old) length (held_by walk kinds.now bytes.now bounds.now marks.now indices.now)) result steps.old steps.new }
 {
-    let w = tabled::walk_few(table, op, ptr, chain, kinds, bytes, bounds, marks, indices);
-    fit_in(room, w)
+    let n = walk?;
+    if steps.len() < n {
+        return Err(Refusal::SHORT_LIST);
+    }
+    write_records(steps, n, kinds, bytes, bounds, marks, indices);
+    Ok(n)
 }
 
-// The records of a chain into the slice.
-fn lower_few<'s, 'a>(
-    steps: &'s mut [QPtrChainStep],
+// ---- a chain
+
+// In lists of so many steps and words, which are cleared.
+fn lower<const STEPS: usize, const WORDS: usize>(
+    steps: &mut [QPtrChainStep],
     op: u32,
     ptr: u32,
-    table: &'a [u32],
-    chain: &'a [u8],
-) -> i64
-    requires { length chain.now ≤ 64 }
-    ensures { Recorded (chain_in (length steps.old) table.now op ptr chain.now) result steps.old steps.new }
+    table: &[u32],
+    chain: &[u8],
+) -> Result<usize, Refusal>
+    requires held { min (length chain.now) 2040 ≤ 4 * WORDS }
+    requires few { WORDS ≤ 510 }
+    requires tied { WORDS + 2 ≡ 2 * STEPS }
+    ensures { Held (in_room (length steps.old) length (walk_in STEPS table.now op ptr chain.now)) result steps.old steps.new }
 {
-    let mut kinds = [0u32; 9];
-    let mut bytes = [0u32; 9];
-    let mut bounds = [0u32; 9];
-    let mut marks = [0u32; 9];
-    let mut indices = [0u32; 9];
-    let f = fit_few(
-        steps.len(),
+    let mut kinds = [0u32; STEPS];
+    let mut bytes = [0u32; STEPS];
+    let mut bounds = [0u32; STEPS];
+    let mut marks = [0u32; STEPS];
+    let mut indices = [0u32; STEPS];
+    let walk = tabled::walk_asked::<WORDS>(
+        table,
         op,
         ptr,
-        table,
         chain,
         &mut kinds,
         &mut bytes,
@@ -202,77 +152,46 @@ fn lower_few<'s, 'a>(
         &mut marks,
         &mut indices,
     );
-    write_records(steps, f.n, &kinds, &bytes, &bounds, &marks, &indices);
-    f.answer
+    put(walk, &kinds, &bytes, &bounds, &marks, &indices, steps)
 }
 
-// ---- at most 255 indices
-
-fn fit_many<'a, 'k>(
-    room: usize,
+// By how long the chain is.
+fn lower_any(
+    steps: &mut [QPtrChainStep],
     op: u32,
     ptr: u32,
-    table: &'a [u32],
-    chain: &'a [u8],
-    kinds: &'k mut [u32],
-    bytes: &'k mut [u32],
-    bounds: &'k mut [u32],
-    marks: &'k mut [u32],
-    indices: &'k mut [u32],
-) -> Fit
-    requires { (64 < length chain.now) × (room_of kinds.old bytes.old bounds.old marks.old indices.old ≡ 256) }
-    ensures { Holds (chain_in room table.now op ptr chain.now) result.n result.answer kinds.new bytes.new bounds.new marks.new indices.new }
+    table: &[u32],
+    chain: &[u8],
+) -> Result<usize, Refusal>
+    ensures { Held (chain_in (length steps.old) table.now op ptr chain.now) result steps.old steps.new }
 {
-    let w = tabled::walk_many(table, op, ptr, chain, kinds, bytes, bounds, marks, indices);
-    fit_in(room, w)
+    if chain.len() <= tabled::SHORT_CHAIN {
+        return lower::<9, 16>(steps, op, ptr, table, chain);
+    }
+    lower::<256, 510>(steps, op, ptr, table, chain)
 }
 
-// The records of a chain into the slice.
-fn lower_many<'s, 'a>(
-    steps: &'s mut [QPtrChainStep],
-    op: u32,
-    ptr: u32,
-    table: &'a [u32],
-    chain: &'a [u8],
-) -> i64
-    requires { 64 < length chain.now }
-    ensures { Recorded (chain_in (length steps.old) table.now op ptr chain.now) result steps.old steps.new }
-{
-    let mut kinds = [0u32; 256];
-    let mut bytes = [0u32; 256];
-    let mut bounds = [0u32; 256];
-    let mut marks = [0u32; 256];
-    let mut indices = [0u32; 256];
-    let f = fit_many(
-        steps.len(),
-        op,
-        ptr,
-        table,
-        chain,
-        &mut kinds,
-        &mut bytes,
-        &mut bounds,
-        &mut marks,
-        &mut indices,
-    );
-    write_records(steps, f.n, &kinds, &bytes, &bounds, &marks, &indices);
-    f.answer
-}
+// ---- for C
 
-// ---- any chain
+// Minus the number of a refusal.
+pub fn refusal(e: u32) -> i64
+    ensures { result ≡ neg_ℤ (pos e) }
+{
+    -i64::from(e)
+}
 
 // The steps of a chain over a table into the slice, and how many; or minus the refusal, and the slice as it was.
-pub fn lower_access_chain<'s, 'a>(
-    steps: &'s mut [QPtrChainStep],
+pub fn lower_access_chain(
+    steps: &mut [QPtrChainStep],
     op: u32,
     ptr: u32,
-    table: &'a [u32],
-    chain: &'a [u8],
+    table: &[u32],
+    chain: &[u8],
 ) -> i64
     ensures { Recorded (chain_in (length steps.old) table.now op ptr chain.now) result steps.old steps.new }
 {
-    if chain.len() <= 64 {
-        return lower_few(steps, op, ptr, table, chain);
+    match lower_any(steps, op, ptr, table, chain) {
+        Ok(n) => n as i64,
+        Err(e) => refusal(e.number),
     }
-    lower_many(steps, op, ptr, table, chain)
 }
