@@ -1,22 +1,15 @@
--- Answers as the code has them: how many components were found, and a layout's words, its head and the offsets that T shows.
+-- A layout's words as the code has them: its head, and the offsets that T shows.
 use Rattle.std.specs.Prelude.{ℕ, List, [], ◌∷◌, ◌++◌}
 use Rattle.arith.specs.Refusals.{Result, ok, refused}
-use Rattle.text.specs.declared.Answer as text
-use Rattle.components.specs.declared.Lookup.{Lookup}
-use Rattle.components.specs.declared.Lookup.TheVariants as lookup
+use Rattle.std.specs.Prelude.{Ok, Err}
+use Rattle.arith.specs.InCode.{OrRefusal}
 use Rattle.shapes.specs.declared.Components.{Components}
 use Rattle.shapes.specs.declared.Components.TheVariants.{Scalar, Elements, Fields}
 use Rattle.shapes.specs.declared.MemTypeLayout.{MemTypeLayout}
 use Rattle.shapes.specs.declared.Handle.TheVariants.{Opaque, Buffer}
 use Rattle.shapes.specs.declared.TypeLayout.{TypeLayout}
 use Rattle.shapes.specs.declared.TypeLayout.TheVariants.{Handle, HandleArray, Concrete}
-use Rattle.shapes.specs.declared.Answer.{Answer}
-use Rattle.shapes.specs.declared.Answer.TheVariants.{Laid, Refused}
 use Rattle.values.specs.Values.{shown_of}
-
-abbrev pub as_answer : Lookup → text.Answer
-as_answer (lookup.Found n) = text.Answer.Bytes n
-as_answer (lookup.Refused e) = text.Answer.Refused e
 
 abbrev pub stride_in : Components → ℕ
 stride_in Scalar = 0
@@ -42,6 +35,6 @@ head_of (HandleArray (Buffer m) len) = memory_head 4 len m
 head_of (HandleArray Opaque len) = 5 ∷ len ∷ 0 ∷ 0 ∷ 0 ∷ 0 ∷ 0 ∷ []
 
 -- a row's answer as words, its offsets in this list
-abbrev pub shown_words : (offsets : List ℕ) → Answer → Result (List ℕ)
-shown_words offsets (Laid l) = ok (head_of l ++ shown_of offsets l)
-shown_words offsets (Refused n) = refused n
+abbrev pub shown_words : (offsets : List ℕ) → OrRefusal TypeLayout → Result (List ℕ)
+shown_words offsets (Ok l) = ok (head_of l ++ shown_of offsets l)
+shown_words offsets (Err e) = refused e.number

@@ -1,7 +1,6 @@
 -- Document 01's T, Q, L and X of a sheet, as what a table that was read for that sheet answers: `table_answers`.
-use Rattle.std.specs.Prelude.{ℕ, ◌≡◌, List}
+use Rattle.std.specs.Prelude.{ℕ, ◌≡◌, List, Ok}
 use Rattle.arith.specs.Refusals.{ok}
-use Rattle.reading.specs.declared.SheetAnswer.TheVariants.{Types}
 use Rattle.sheet.specs.Sheet.{Sheet, read_sheet}
 use Rattle.layout.specs.Layouts.{answer_in}
 use Rattle.layout.specs.Lookup.{lookup}
@@ -19,4 +18,4 @@ pub record OfSheet (input table : List ℕ) : Type 0 where
 
 -- where `read_table` answered a number of types
 abbrev pub TableAnswers : Type 0
-TableAnswers = (input old table : List ℕ) (n : ℕ) → ReadsTable input (Types n) old table → OfSheet input table
+TableAnswers = (input old table : List ℕ) (n : ℕ) → ReadsTable input (Ok n) old table → OfSheet input table
