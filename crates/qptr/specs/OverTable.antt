@@ -1,14 +1,10 @@
 -- What C gets of a table: one number, and the lent list afterwards.
-use Rattle.std.specs.Prelude.{ℕ, ◌<◌, ◌≡◌, List, ℤ, pos, neg_ℤ, length}
+use Rattle.std.specs.Prelude.{ℕ, ◌≡◌, List, ℤ, length}
 use Rattle.arith.specs.Refusals.{Result}
 use Rattle.text.specs.Whole.{held, written, answered}
 use Rattle.sheet.specs.Tables.{over}
-use Rattle.reading.specs.declared.SheetAnswer.{SheetAnswer}
-use Rattle.reading.specs.declared.SheetAnswer.TheVariants as answer
 use Rattle.reading.specs.Reads.{told, words_in}
 use Rattle.lower.specs.declared.QPtrOp.{QPtrOp}
-use Rattle.moves.specs.declared.Walk.{Walk}
-use Rattle.moves.specs.declared.Walk.TheVariants as walk
 use Rattle.moves.specs.Written.{walk_of, steps_of}
 use Rattle.wire.specs.Wire.{steps_bytes}
 use Rattle.flat.specs.Table.{table_words}
@@ -18,30 +14,17 @@ use Rattle.qptr.specs.Answered.{code_of}
 
 -- ---- a sheet, read into a table
 
-abbrev pub sheet_code : SheetAnswer → ℤ
-sheet_code (answer.Types n) = pos n
-sheet_code (answer.Refused e) = neg_ℤ (pos e)
-
 pub record TableRead (sheet : List ℕ) (r : ℤ) (old new : List ℕ) : Type 0 where
-  pub says : r ≡ sheet_code (told (read_in (length old) sheet))
+  pub says : r ≡ code_of (told (read_in (length old) sheet))
   pub words : new ≡ over (words_in table_words (read_in (length old) sheet)) old
 
 -- ---- a chain, lowered over a table
-
-abbrev pub walk_code : Walk → ℤ
-walk_code (walk.Steps n) = pos n
-walk_code (walk.Refused e) = neg_ℤ (pos e)
-
--- a number of steps that some list can have
-abbrev pub SmallWalk : Walk → Type 0
-SmallWalk (walk.Steps n) = n < 9223372036854775808
-SmallWalk (walk.Refused e) = Unit {0}
 
 abbrev pub chain_for : (table : List ℕ) (op ptr : ℕ) (indices old : List ℕ) → Result (List QPtrOp)
 chain_for table op ptr indices old = chain_in (room_in old) table op ptr indices
 
 pub record ChainLowered (table : List ℕ) (op ptr : ℕ) (indices : List ℕ) (r : ℤ) (old new : List ℕ) : Type 0 where
-  pub says : r ≡ walk_code (walk_of 0 (chain_for table op ptr indices old))
+  pub says : r ≡ code_of (walk_of 0 (chain_for table op ptr indices old))
   pub holds : new ≡ over (steps_bytes (steps_of (chain_for table op ptr indices old))) old
 
 -- ---- words, all of them or none, and how many

@@ -6,20 +6,18 @@ pub mod step_structs;
 ghost use Rattle.std.specs.Prelude.{◌≡◌};
 ghost use Rattle.qptr.specs.Answered.{code_of, Small, Answered};
 ghost use Rattle.asked.specs.Asked.{layout_for, found_for, length_for, variable_for};
-ghost use Rattle.qptr.specs.OverTable.{sheet_code, walk_code, SmallWalk, TableRead, ChainLowered, Got};
+ghost use Rattle.qptr.specs.OverTable.{TableRead, ChainLowered, Got};
 
-use moves::Walk;
-use reading::SheetAnswer;
-use text::Answer;
+use arith::refusal::Refusal;
 
 // What C gets: a number of bytes, or minus the number of a refusal.
-fn code(a: Answer) -> i64
+fn code(a: Result<usize, Refusal>) -> i64
     requires { Small a }
     ensures { result ≡ code_of a }
 {
     match a {
-        Answer::Bytes(n) => n as i64,
-        Answer::Refused(e) => recorded::refusal(e),
+        Ok(n) => n as i64,
+        Err(e) => recorded::refusal(e.number),
     }
 }
 
@@ -32,39 +30,21 @@ pub fn qptr_answer_sheet(sheet: &[u8], out: &mut [u8]) -> i64
 
 // ---- over a table
 
-// A number of types, or minus the number of a refusal.
-fn sheet_code(a: SheetAnswer) -> i64
-    ensures { result ≡ sheet_code a }
-{
-    match a {
-        SheetAnswer::Types(n) => n as i64,
-        SheetAnswer::Refused(e) => recorded::refusal(e),
-    }
-}
-
-// A number of steps, or minus the number of a refusal.
-fn walk_code(w: Walk) -> i64
-    requires { SmallWalk w }
-    ensures { result ≡ walk_code w }
-{
-    match w {
-        Walk::Steps(n) => n as i64,
-        Walk::Refused(e) => recorded::refusal(e),
-    }
-}
-
 // Reads a sheet into a table of at least 7,175 words, and how many types it has; -1, -2, -3, or -24 where the table is shorter, and it is as it was.
 pub fn qptr_read_sheet(sheet: &[u8], table: &mut [u32]) -> i64
     ensures { TableRead sheet.now result table.old table.new }
 {
-    sheet_code(flat::read_table(sheet, table))
+    match flat::read_table(sheet, table) {
+        Ok(n) => i64::from(n),
+        Err(e) => recorded::refusal(e.number),
+    }
 }
 
 // The steps of a chain over a table, 20 bytes each, and how many; or minus the refusal, and the bytes as they were.
 pub fn qptr_lower_chain(table: &[u32], op: u32, ptr: u32, indices: &[u8], steps: &mut [u8]) -> i64
     ensures { ChainLowered table.now op ptr indices.now result steps.old steps.new }
 {
-    walk_code(tabled::lower_chain(table, op, ptr, indices, steps))
+    code(tabled::lower_chain(table, op, ptr, indices, steps))
 }
 
 // ---- the other questions over a table: words, all of them or none, and how many; or minus the refusal, and the list as it was
