@@ -295,17 +295,19 @@ module _ (table : List ℕ) (op ptr : ℕ) (s : List ℕ) where
   unfolding in_room ◌>>=◌
   refused_in room e = refl
 
-  -- what the caller gets of it
-  pub in_lists : (room p : ℕ) → (length s ≤ 64 → p ≡ 9) → (64 < length s → p ≡ 256) → chain_in room table op ptr s ≡ in_room room length (walk_in p table op ptr s)
-  in_lists room p few many = by (asked_in table op ptr s) refl
+  -- what the caller gets of it, in p places
+  in_places : (room p : ℕ) → ((o : ChainOp) → asked_in table op ptr s ≡ ok o → places (length s / 8) ≡ p) → chain_in room table op ptr s ≡ in_room room length (walk_in p table op ptr s)
+  in_places room p size = by (asked_in table op ptr s) refl
     where
       by : (a : Result ChainOp) → asked_in table op ptr s ≡ a → chain_in room table op ptr s ≡ in_room room length (walk_in p table op ptr s)
       by (refused e) h = was_refused table op ptr s room e h ∙ sym (refused_in room e) ∙ ap (in_room room length) (sym (walk_refused p e h))
-      by (ok o) h = steps_by table op ptr s room o h p (size (ltb 64 (length s)) refl) ∙ ap (in_room room length) (sym (walk_chain p o h))
-        where
-          size : (b : Bool) → ltb 64 (length s) ≡ b → places (length s / 8) ≡ p
-          size true e = let g = ltb-true 64 (length s) e in long table op ptr s h g ∙ sym (many g)
-          size false e = let g = ltb-false 64 (length s) e in short s g ∙ sym (few g)
+      by (ok o) h = steps_by table op ptr s room o h p (size o h) ∙ ap (in_room room length) (sym (walk_chain p o h))
+
+  pub in_short_lists : (room : ℕ) → length s ≤ 64 → chain_in room table op ptr s ≡ in_room room length (walk_in 9 table op ptr s)
+  in_short_lists room h = in_places room 9 λ o a. short s h
+
+  pub in_long_lists : (room : ℕ) → 64 < length s → chain_in room table op ptr s ≡ in_room room length (walk_in 256 table op ptr s)
+  in_long_lists room h = in_places room 256 λ o a. long table op ptr s a h
 
   pub held_in : {room : ℕ} {w : OrRefusal ℕ} {ks bs ls ms is ks' bs' ls' ms' is' : List ℕ} → room_of ks bs ls ms is ≡ room
       → Wrote 0 (walk_in (room_of ks bs ls ms is) table op ptr s) w ks bs ls ms is ks' bs' ls' ms' is' → held_by w ks' bs' ls' ms' is' ≡ walk_in room table op ptr s
