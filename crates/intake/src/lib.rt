@@ -15,6 +15,7 @@ pub fn read_all<R: Read>(input: &mut R, list: &mut [u8]) -> io::Result<usize>
     ensures front { IfOk result (λ n. IfSome (R.remaining input.old) (λ bytes. take n list.new ≡ take (length list.old) bytes)) }
 {
     let mut done = 0;
+    // by place: a read gives as many bytes as it likes
     while done < list.len() {
         let n = input.read(&mut list[done..])?;
         if n == 0 {

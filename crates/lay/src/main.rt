@@ -46,6 +46,7 @@ fn write_answers<W: Write>(
     ensures { OnOk result (Appends (W.contents out.old) (W.contents out.new) (lines_from (source tables.now) sheet.now 0)) }
 {
     let mut from = 0;
+    // the last buffer is written, too, before it is known to be the last
     loop {
         let filled = listing::fill(sheet, from, tables, buffer);
         out.write_all(&buffer[..filled.bytes])?;

@@ -96,6 +96,7 @@ fn write_records(
     requires { n ≤ length steps.old }
     ensures { steps.new ≡ records_over (steps_in kinds.now bytes.now bounds.now marks.now indices.now n) steps.old }
 {
+    // by index: of what is written through iter_mut a proof knows nothing
     for i in 0..n {
         steps[i] = record_at(i, kinds, bytes, bounds, marks, indices);
     }

@@ -163,6 +163,7 @@ fn read_record(bundle: &[u8], at: usize) -> Option<Record> {
 fn replay(out: &mut impl Write, bundle: &[u8]) -> io::Result<Count> {
     let mut total = Count::default();
     let mut at = 0;
+    // by place: only a record tells where the next one begins
     while at < bundle.len() {
         let Some(record) = read_record(bundle, at) else {
             out.write_all(b"a record is misread\n")?;

@@ -35,6 +35,7 @@ fn fold(start: u64, list: &[u32], count: usize) -> u64 {
         .fold(start, |h, w| fold_word(h, u64::from(*w)))
 }
 
+// Here alone an op is needed as a number.
 fn op_number(op: ChainOp) -> u32 {
     match op {
         ChainOp::AccessChain => 65,
