@@ -10,7 +10,13 @@ ghost use Rattle.words.specs.Little.{little, word_at, words_of};
 pub fn put_word(out: &mut [u8], at: usize, w: u32) -> usize
     ensures { Printed (little w) out.old at result out.new }
 {
-    text::bytes(out, at, &w.to_le_bytes())
+    let bytes = w.to_le_bytes();
+    // a copy whose length isn't known takes longer
+    if out.len() >= 4 && at <= out.len() - 4 {
+        out[at..at + 4].copy_from_slice(&bytes);
+        return at + 4;
+    }
+    text::bytes(out, at, &bytes)
 }
 
 // The word that four bytes from `at` on spell.
