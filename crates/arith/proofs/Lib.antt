@@ -7,3 +7,4 @@ pub mod Ones
 pub mod Whole
 pub mod Examples
 pub mod Stores
+pub mod Listed

@@ -4,11 +4,9 @@ use native.Mathlib.Omega.{arith}
 use native.Mathlib.Numerals.{add-one}
 use mathlib.Core.Path.{◌≡◌, refl, sym, ap, ◌∙◌}
 use mathlib.Core.List.{List, [], ◌∷◌, ◌++◌, append_assoc}
-use mathlib.Core.Logic.{◌⊎◌, inl, inr}
 use lib.ListN.{length, get_or, take, set, length-set}
-use lib.Seq.{sets, sets-eq, set_out, set_comm, take-suc, take_all, length-take-le, drop-drop}
+use lib.Seq.{sets, sets-eq, set_out, set_comm, take-suc, length-take-le, drop-drop}
 use borrow.Rule.Slice.PartMut.{put_mid}
-use Rattle.std.proofs.lemmas.Bool.{cases_lt}
 
 module _ {A : Type 0} where
   pub sets_append : (l : List A) (i : ℕ) (a b : List A) → sets l i (a ++ b) ≡ sets (sets l i a) (i + length a) b
@@ -39,16 +37,12 @@ module _ {A : Type 0} where
   rest_out l at (v ∷ w) Prim.Native.Nat.zero h k = sym (sets_past l at (v ∷ w) (omega arith))
   rest_out l at (v ∷ w) (suc i) h k = rest_out (set l at v) (suc at) w i (omega arith) (rw (length-set l at v) (omega arith))
 
-  -- as many as there is room for are stored, and so all
-  pub room_filled : (l : List A) (at n : ℕ) (w : List A) → n ≡ min (length w) (length l - at) → sets l at (take n w) ≡ sets l at w
-  room_filled l at n w m = go (cases_lt n (length w))
-    where
-      go : (n < length w) ⊎ (length w ≤ n) → sets l at (take n w) ≡ sets l at w
-      go (inl s) = rest_out l at w n (omega arith) (omega arith)
-      go (inr s) = rw (take_all n w s)
-
   -- in the place of those that stood there
-  pub part_put : (l : List A) (at n k : ℕ) (w : List A) → k ≡ n → n ≡ min (length w) (length l - at) → at < length l → put_mid at k l (take n w) ≡ sets l at w
-  part_put l at n k w e m h =
-      let t : length (take n w) ≡ n = length-take-le n w (omega arith) in
-      rw (e, drop-drop n at l, ← room_filled l at n w m) (rw (sets-eq (take n w) l at (omega arith), t, append_assoc))
+  pub all_put : (l : List A) (at k : ℕ) (w : List A) → k ≡ length w → at + length w ≤ length l → put_mid at k l w ≡ sets l at w
+  all_put l at k w e h = rw (e, drop-drop (length w) at l) (rw (sets-eq w l at h, append_assoc))
+
+  -- as many as there is room for are stored, and so all
+  pub part_put : (l : List A) (at k n : ℕ) (w : List A) → k ≡ n → at + n ≡ length l → n ≤ length w → put_mid at k l (take n w) ≡ sets l at w
+  part_put l at k n w e r h =
+      let t : length (take n w) ≡ n = length-take-le n w h in
+      all_put l at k (take n w) (e ∙ sym t) (rw t (omega arith)) ∙ rest_out l at w n h (omega arith)

@@ -4,3 +4,4 @@ pub mod Numbers
 pub mod InCode
 pub mod Statements
 pub mod Pairs
+pub mod Rows

@@ -1,13 +1,26 @@
-// Elements stored in a list one behind the other.
-ghost use Rattle.std.specs.Prelude.{◌≡◌};
+// Elements stored in a list one behind the other, and rows of them.
+ghost use Rattle.std.specs.Prelude.{◌≡◌, ◌+◌, ◌*◌, ◌<◌, length, MatchOption};
 ghost use Rattle.std.proofs.lemmas.List.Edits.{sets};
+ghost use Rattle.arith.specs.Rows.{IsRow};
 
 // The items from `at` on; what lies past the list's end is left out.
 pub fn put<T: Copy>(list: &mut [T], at: usize, items: &[T])
     ensures { list.new ≡ sets list.old at items.now }
 {
-    if at < list.len() {
-        let n = items.len().min(list.len() - at);
-        list[at..at + n].copy_from_slice(&items[..n]);
+    // a copy of all items first: where their number is known, it is a few stores
+    if items.len() <= list.len() && at <= list.len() - items.len() {
+        list[at..at + items.len()].copy_from_slice(items);
+    } else if at < list.len() {
+        let n = list.len() - at;
+        list[at..].copy_from_slice(&items[..n]);
     }
+}
+
+// Row i of a table whose rows have N items each; none where the table ends before it does.
+pub fn row<T, const N: usize>(table: &[T], i: u32) -> Option<&[T; N]>
+    ensures { MatchOption result (length table.now < N * i + N) (λ r. IsRow N table.now i r.now) }
+{
+    // no `From`: the check proves that a word fits
+    let at = N.checked_mul(i as usize)?;
+    table.get(at..)?.first_chunk()
 }

@@ -11,7 +11,7 @@ use Rattle.shapes.specs.declared.TypeLayout.{TypeLayout}
 use Rattle.shapes.specs.declared.TypeLayout.TheVariants as layout
 use Rattle.std.specs.Prelude.{Ok}
 use Rattle.shapes.proofs.ReadsBack.{decode_encode}
-use Rattle.places.proofs.Listed.{one_by_one}
+use Rattle.arith.proofs.Listed.{one_by_one}
 use Rattle.places.specs.declared.Place.TheVariants.{Memory, Buffer}
 use Rattle.places.specs.Places.{place_of, found_of, memory_with, Made}
 

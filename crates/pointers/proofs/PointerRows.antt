@@ -10,7 +10,7 @@ use Rattle.spirv.specs.declared.SpvType.TheVariants.{Pointer}
 use Rattle.spirv.specs.Decl.{pointee_of}
 use Rattle.spirv.specs.Rows.{encode_row, decode_row, plain_row, row_at}
 use Rattle.spirv.proofs.Rows.{rows_read_back, row_short}
-use Rattle.places.proofs.Listed.{one_by_one}
+use Rattle.arith.proofs.Listed.{one_by_one}
 use Rattle.pointers.specs.OverTables.{pointee_of_row}
 
 module _ (ws : List ℕ) (h : length ws ≡ 6) (tag : get_or ws 0 0 ≡ 80) (x : get_or ws 3 0 ≡ 0) (y : get_or ws 4 0 ≡ 0) (z : get_or ws 5 0 ≡ 0) where

@@ -1,5 +1,5 @@
 -- Rows and indices are read back from their words, and no other words are read as one. Assumes nothing.
-use Prim.Native.Nat.{ℕ, ◌+◌, ◌*◌, ◌≤◌}
+use Prim.Native.Nat.{ℕ, ◌+◌, ◌*◌, ◌≤◌, ◌<◌}
 use native.Mathlib.Omega.{arith}
 use Rattle.std.specs.Prelude.{Some, None}
 use Rattle.std.specs.Bool.{then_some}
@@ -19,7 +19,7 @@ use Rattle.spirv.specs.declared.Index.{Index}
 use Rattle.spirv.specs.declared.Index.TheVariants.{Known, Unknown}
 use Rattle.spirv.specs.Decl.{is_struct}
 use Rattle.spirv.specs.Rows.{same_words, type_words, encode_row, type_of, struct_row, plain_row, row_of, row_of_words, decode_row, row_at, OfDeclaration, RowsReadBack, encode_index, index_of, decode_index, index_at, IndicesReadBack}
-use Rattle.spirv.proofs.Words.{same_is, same_self, other_length}
+use Rattle.spirv.proofs.Words.{same_is, same_self, other_length, cut_short}
 
 -- ---- rows
 
@@ -43,6 +43,11 @@ row_length r = words_length r.ty r.start r.count r.refusal r.read
 pub row_short : (ws : List ℕ) → (length ws ≡ 6 → ⊥) → decode_row ws ≡ None
 unfolding decode_row
 row_short ws h = rw (other_length (encode_row (row_of_words ws)) ws (λ e. h (sym e ∙ row_length (row_of_words ws))))
+
+-- the row is not there where the table ends before it does
+pub row_missing : (table : List ℕ) (i : ℕ) → length table < 6 * i + 6 → row_at table i ≡ None
+unfolding row_at
+row_missing table i h = row_short (take 6 (drop (6 * i) table)) (cut_short table (6 * i) 6 h (omega arith))
 
 again : (t : SpvType) (s n f o : ℕ) → row_of_words (type_words t s n f o) ≡ cond (is_struct t) (struct_row t s n f o) (plain_row t)
 unfolding row_of_words row_of type_of
@@ -106,6 +111,10 @@ index_short [] h = refl
 index_short (w ∷ []) h = refl
 index_short (w ∷ k ∷ []) h = absurd (h refl)
 index_short (w ∷ k ∷ x ∷ xs) h = refl
+
+pub index_missing : (table : List ℕ) (i : ℕ) → length table < 2 * i + 2 → index_at table i ≡ None
+unfolding index_at
+index_missing table i h = index_short (take 2 (drop (2 * i) table)) (cut_short table (2 * i) 2 h (omega arith))
 
 pub index_long : (ws : List ℕ) → length ws ≡ 2 → decode_index ws ≡ index_of (get_or ws 0 0) (get_or ws 1 0)
 unfolding decode_index

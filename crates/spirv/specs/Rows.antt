@@ -93,6 +93,9 @@ plain_row t = struct_row t 0 0 0 0
 unfoldable pub row_of : (tag a b c d e : ℕ) → DeclRow
 row_of tag a b c d e = cond (eqb tag (code "S")) (struct_row (type_of tag a b c d e) b c d e) (plain_row (type_of tag a b c d e))
 
+abbrev pub type_of_words : List ℕ → SpvType
+type_of_words ws = type_of (get_or ws 0 0) (get_or ws 1 0) (get_or ws 2 0) (get_or ws 3 0) (get_or ws 4 0) (get_or ws 5 0)
+
 unfoldable pub row_of_words : List ℕ → DeclRow
 row_of_words ws = row_of (get_or ws 0 0) (get_or ws 1 0) (get_or ws 2 0) (get_or ws 3 0) (get_or ws 4 0) (get_or ws 5 0)
 
