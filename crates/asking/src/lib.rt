@@ -24,7 +24,8 @@ fn question_in(line: &[u8]) -> Option<(Ask, usize)>
     }
 }
 
-// A question with its indices written, two words each; 24 where the list is too short for them.
+// A question with its indices written, two words each; 24 where the list is too short for them. `at` is a place in the line and `next` one in the sheet:
+// a struct of both would be made once, and taken apart here.
 fn hand(
     line: &[u8],
     ask: Ask,

@@ -41,7 +41,7 @@ pub trait ReadField: Sized {
 
 // ---- what one field says
 
-// The field f is this text.
+// The field f is this text. A function, since `==` takes a slice and no literal of bytes: each of the eleven tests below would end in `.as_slice()`.
 fn is(f: &[u8], text: &[u8]) -> bool
     ensures { result ≡ same f.now text.now }
 {
@@ -143,7 +143,7 @@ fn decoration(number: &[u8], value: &[u8]) -> Option<Decoration>
 
 // ---- the next field of a line
 
-// Where the byte c first stands.
+// Where the byte c first stands. A function, since two need it: what is proved of its closure is so said once.
 fn place(s: &[u8], c: u8) -> Option<usize>
     ensures { result ≡ position (λ b. b == c) s.now }
 {

@@ -64,7 +64,16 @@ fn count<T: Copy, F: Fn(usize) -> Option<Field<T>>>(
     Some(n)
 }
 
-// ---- the lines, behind their first field, which ends at e
+// ---- the lines, behind their first field. Pairs of one shape (int and float, vector and matrix, T and X) are two or three calls with another constructor
+// at the end: one function for both would take the constructor as a closure, with a ghost map from it to the grammar's form, and is longer.
+
+// What is left of a line, behind the field that ends at e, below `above` types.
+#[derive(Clone, Copy)]
+struct Rest<'a> {
+    line: &'a [u8],
+    e: usize,
+    above: u32,
+}
 
 // A type that has no further field.
 fn declared(line: &[u8], e: usize, ty: SpvType) -> Option<SheetLine>
@@ -85,17 +94,19 @@ fn asked(line: &[u8], e: usize, ask: Ask) -> Option<SheetLine>
     (line.len() <= e).then_some(SheetLine::Asked { ask, at: e })
 }
 
-// The setting, on line 1.
-fn setting_line(line: &[u8], e: usize, above: u32) -> Option<SheetLine>
-    ensures { SaysAs above "G" line.now e result }
+// The setting, on line 1. It and three more long lines aren't put into read_line, where every line would pay for their values; and read_line is put
+// into what calls it, so that what a line says isn't copied. Reading takes an eighth less time so (measured).
+#[inline(never)]
+fn setting_line(r: &Rest<'_>) -> Option<SheetLine>
+    ensures { SaysAs r.now.above "G" r.now.line.now r.now.e result }
 {
-    let ignore = bool::next(line, e)?;
-    let min = u32::next(line, ignore.end)?;
-    let bsize = u32::next(line, min.end)?;
-    let balign = u32::next(line, bsize.end)?;
-    let psize = u32::next(line, balign.end)?;
-    let palign = u32::next(line, psize.end)?;
-    (line.len() <= palign.end).then_some(SheetLine::Setting(LayoutConfig {
+    let ignore = bool::next(r.line, r.e)?;
+    let min = u32::next(r.line, ignore.end)?;
+    let bsize = u32::next(r.line, min.end)?;
+    let balign = u32::next(r.line, bsize.end)?;
+    let psize = u32::next(r.line, balign.end)?;
+    let palign = u32::next(r.line, psize.end)?;
+    (r.line.len() <= palign.end).then_some(SheetLine::Setting(LayoutConfig {
         ignore_legacy_align: ignore.value,
         min_aggregate_legacy_align: min.value,
         abstract_bool_size: bsize.value,
@@ -106,29 +117,29 @@ fn setting_line(line: &[u8], e: usize, above: u32) -> Option<SheetLine>
 }
 
 // An integer type.
-fn int_line(line: &[u8], e: usize, above: u32) -> Option<SheetLine>
-    ensures { SaysAs above "I" line.now e result }
+fn int_line(r: &Rest<'_>) -> Option<SheetLine>
+    ensures { SaysAs r.now.above "I" r.now.line.now r.now.e result }
 {
-    let width = u32::next(line, e)?;
-    declared(line, width.end, SpvType::Int { width: width.value })
+    let width = u32::next(r.line, r.e)?;
+    declared(r.line, width.end, SpvType::Int { width: width.value })
 }
 
 // A float type.
-fn float_line(line: &[u8], e: usize, above: u32) -> Option<SheetLine>
-    ensures { SaysAs above "F" line.now e result }
+fn float_line(r: &Rest<'_>) -> Option<SheetLine>
+    ensures { SaysAs r.now.above "F" r.now.line.now r.now.e result }
 {
-    let width = u32::next(line, e)?;
-    declared(line, width.end, SpvType::Float { width: width.value })
+    let width = u32::next(r.line, r.e)?;
+    declared(r.line, width.end, SpvType::Float { width: width.value })
 }
 
 // A vector type.
-fn vector_line(line: &[u8], e: usize, above: u32) -> Option<SheetLine>
-    ensures { SaysAs above "V" line.now e result }
+fn vector_line(r: &Rest<'_>) -> Option<SheetLine>
+    ensures { SaysAs r.now.above "V" r.now.line.now r.now.e result }
 {
-    let elem = fields::type_at(line, e, above)?;
-    let len = u32::next(line, elem.end)?;
+    let elem = fields::type_at(r.line, r.e, r.above)?;
+    let len = u32::next(r.line, elem.end)?;
     declared(
-        line,
+        r.line,
         len.end,
         SpvType::Vector {
             elem: elem.value,
@@ -138,13 +149,13 @@ fn vector_line(line: &[u8], e: usize, above: u32) -> Option<SheetLine>
 }
 
 // A matrix type.
-fn matrix_line(line: &[u8], e: usize, above: u32) -> Option<SheetLine>
-    ensures { SaysAs above "M" line.now e result }
+fn matrix_line(r: &Rest<'_>) -> Option<SheetLine>
+    ensures { SaysAs r.now.above "M" r.now.line.now r.now.e result }
 {
-    let column = fields::type_at(line, e, above)?;
-    let len = u32::next(line, column.end)?;
+    let column = fields::type_at(r.line, r.e, r.above)?;
+    let len = u32::next(r.line, column.end)?;
     declared(
-        line,
+        r.line,
         len.end,
         SpvType::Matrix {
             column: column.value,
@@ -154,14 +165,14 @@ fn matrix_line(line: &[u8], e: usize, above: u32) -> Option<SheetLine>
 }
 
 // An array type.
-fn array_line(line: &[u8], e: usize, above: u32) -> Option<SheetLine>
-    ensures { SaysAs above "A" line.now e result }
+fn array_line(r: &Rest<'_>) -> Option<SheetLine>
+    ensures { SaysAs r.now.above "A" r.now.line.now r.now.e result }
 {
-    let elem = fields::type_at(line, e, above)?;
-    let len = Length::next(line, elem.end)?;
-    let stride = Stride::next(line, len.end)?;
+    let elem = fields::type_at(r.line, r.e, r.above)?;
+    let len = Length::next(r.line, elem.end)?;
+    let stride = Stride::next(r.line, len.end)?;
     declared(
-        line,
+        r.line,
         stride.end,
         SpvType::Array {
             elem: elem.value,
@@ -172,13 +183,13 @@ fn array_line(line: &[u8], e: usize, above: u32) -> Option<SheetLine>
 }
 
 // An array type without length.
-fn runtime_line(line: &[u8], e: usize, above: u32) -> Option<SheetLine>
-    ensures { SaysAs above "R" line.now e result }
+fn runtime_line(r: &Rest<'_>) -> Option<SheetLine>
+    ensures { SaysAs r.now.above "R" r.now.line.now r.now.e result }
 {
-    let elem = fields::type_at(line, e, above)?;
-    let stride = Stride::next(line, elem.end)?;
+    let elem = fields::type_at(r.line, r.e, r.above)?;
+    let stride = Stride::next(r.line, elem.end)?;
     declared(
-        line,
+        r.line,
         stride.end,
         SpvType::RuntimeArray {
             elem: elem.value,
@@ -188,13 +199,13 @@ fn runtime_line(line: &[u8], e: usize, above: u32) -> Option<SheetLine>
 }
 
 // A pointer type.
-fn pointer_line(line: &[u8], e: usize, above: u32) -> Option<SheetLine>
-    ensures { SaysAs above "P" line.now e result }
+fn pointer_line(r: &Rest<'_>) -> Option<SheetLine>
+    ensures { SaysAs r.now.above "P" r.now.line.now r.now.e result }
 {
-    let class = u32::next(line, e)?;
-    let pointee = fields::type_at(line, class.end, above)?;
+    let class = u32::next(r.line, r.e)?;
+    let pointee = fields::type_at(r.line, class.end, r.above)?;
     declared(
-        line,
+        r.line,
         pointee.end,
         SpvType::Pointer {
             class: class.value,
@@ -204,56 +215,58 @@ fn pointer_line(line: &[u8], e: usize, above: u32) -> Option<SheetLine>
 }
 
 // The layout of a type.
-fn t_line(line: &[u8], e: usize, above: u32) -> Option<SheetLine>
-    ensures { SaysAs above "T" line.now e result }
+fn t_line(r: &Rest<'_>) -> Option<SheetLine>
+    ensures { SaysAs r.now.above "T" r.now.line.now r.now.e result }
 {
-    let t = fields::type_at(line, e, above)?;
-    asked(line, t.end, Ask::T(t.value))
+    let t = fields::type_at(r.line, r.e, r.above)?;
+    asked(r.line, t.end, Ask::T(t.value))
 }
 
 // Whether two types are laid out the same.
-fn e_line(line: &[u8], e: usize, above: u32) -> Option<SheetLine>
-    ensures { SaysAs above "E" line.now e result }
+fn e_line(r: &Rest<'_>) -> Option<SheetLine>
+    ensures { SaysAs r.now.above "E" r.now.line.now r.now.e result }
 {
-    let a = fields::type_at(line, e, above)?;
-    let b = fields::type_at(line, a.end, above)?;
-    asked(line, b.end, Ask::E(a.value, b.value))
+    let a = fields::type_at(r.line, r.e, r.above)?;
+    let b = fields::type_at(r.line, a.end, r.above)?;
+    asked(r.line, b.end, Ask::E(a.value, b.value))
 }
 
 // The components that hold a range.
-fn q_line(line: &[u8], e: usize, above: u32) -> Option<SheetLine>
-    ensures { SaysAs above "Q" line.now e result }
+fn q_line(r: &Rest<'_>) -> Option<SheetLine>
+    ensures { SaysAs r.now.above "Q" r.now.line.now r.now.e result }
 {
-    let t = fields::type_at(line, e, above)?;
-    let start = u32::next(line, t.end)?;
-    let end = u32::next(line, start.end)?;
-    asked(line, end.end, Ask::Q(t.value, start.value, end.value))
+    let t = fields::type_at(r.line, r.e, r.above)?;
+    let start = u32::next(r.line, t.end)?;
+    let end = u32::next(r.line, start.end)?;
+    asked(r.line, end.end, Ask::Q(t.value, start.value, end.value))
 }
 
 // The length of a runtime array.
-fn l_line(line: &[u8], e: usize, above: u32) -> Option<SheetLine>
-    ensures { SaysAs above "L" line.now e result }
+fn l_line(r: &Rest<'_>) -> Option<SheetLine>
+    ensures { SaysAs r.now.above "L" r.now.line.now r.now.e result }
 {
-    let ptr = fields::type_at(line, e, above)?;
-    let member = u32::next(line, ptr.end)?;
-    asked(line, member.end, Ask::L(ptr.value, member.value))
+    let ptr = fields::type_at(r.line, r.e, r.above)?;
+    let member = u32::next(r.line, ptr.end)?;
+    asked(r.line, member.end, Ask::L(ptr.value, member.value))
 }
 
 // A local variable.
-fn x_line(line: &[u8], e: usize, above: u32) -> Option<SheetLine>
-    ensures { SaysAs above "X" line.now e result }
+fn x_line(r: &Rest<'_>) -> Option<SheetLine>
+    ensures { SaysAs r.now.above "X" r.now.line.now r.now.e result }
 {
-    let ptr = fields::type_at(line, e, above)?;
-    asked(line, ptr.end, Ask::X(ptr.value))
+    let ptr = fields::type_at(r.line, r.e, r.above)?;
+    asked(r.line, ptr.end, Ask::X(ptr.value))
 }
 
 // A struct type, of as many members as it says.
-fn struct_line(line: &[u8], e: usize, above: u32) -> Option<SheetLine>
-    ensures { SaysAs above "S" line.now e result }
+#[inline(never)]
+fn struct_line(r: &Rest<'_>) -> Option<SheetLine>
+    ensures { SaysAs r.now.above "S" r.now.line.now r.now.e result }
 {
-    let block = bool::next(line, e)?;
-    let n = u32::next(line, block.end)?;
-    let count = count(line, n.end, |e| fields::type_at(line, e, above))?;
+    let block = bool::next(r.line, r.e)?;
+    let n = u32::next(r.line, block.end)?;
+    let count = count(r.line, n.end, |e| fields::type_at(r.line, e, r.above))?;
+    // widens: there is no From of u32 to usize
     (n.value as usize == count).then_some(SheetLine::Declared {
         ty: SpvType::Struct { block: block.value },
         count,
@@ -262,24 +275,26 @@ fn struct_line(line: &[u8], e: usize, above: u32) -> Option<SheetLine>
 }
 
 // A decoration of the last struct.
-fn decoration_line(line: &[u8], e: usize, above: u32) -> Option<SheetLine>
-    ensures { SaysAs above "D" line.now e result }
+#[inline(never)]
+fn decoration_line(r: &Rest<'_>) -> Option<SheetLine>
+    ensures { SaysAs r.now.above "D" r.now.line.now r.now.e result }
 {
-    let member = u32::next(line, e)?;
-    let decoration = fields::decoration_at(line, member.end)?;
-    (line.len() <= decoration.end).then_some(SheetLine::Decorated(MemberDecoration {
+    let member = u32::next(r.line, r.e)?;
+    let decoration = fields::decoration_at(r.line, member.end)?;
+    (r.line.len() <= decoration.end).then_some(SheetLine::Decorated(MemberDecoration {
         member: member.value,
         decoration: decoration.value,
     }))
 }
 
 // A chain with its indices.
-fn c_line(line: &[u8], e: usize, above: u32) -> Option<SheetLine>
-    ensures { SaysAs above "C" line.now e result }
+#[inline(never)]
+fn c_line(r: &Rest<'_>) -> Option<SheetLine>
+    ensures { SaysAs r.now.above "C" r.now.line.now r.now.e result }
 {
-    let op = ChainOp::next(line, e)?;
-    let ptr = fields::type_at(line, op.end, above)?;
-    let count = count(line, ptr.end, |e| Index::next(line, e))?;
+    let op = ChainOp::next(r.line, r.e)?;
+    let ptr = fields::type_at(r.line, op.end, r.above)?;
+    let count = count(r.line, ptr.end, |e| Index::next(r.line, e))?;
     Some(SheetLine::Asked {
         ask: Ask::C {
             op: op.value,
@@ -291,6 +306,7 @@ fn c_line(line: &[u8], e: usize, above: u32) -> Option<SheetLine>
 }
 
 // What a line says below `above` types, by its first field.
+#[inline(always)]
 #[tactic(auto, using(crate::proofs::First::by_letter), unfolding(sheet::specs::Grammar::grammar))]
 pub fn read_line(line: &[u8], above: u32) -> Option<SheetLine>
     ensures { Says above line.now result (read_line above line.now) }
@@ -299,26 +315,27 @@ pub fn read_line(line: &[u8], above: u32) -> Option<SheetLine>
     if e != 1 {
         return None;
     }
+    let r = Rest { line, e, above };
     match line[0] {
-        b'G' => setting_line(line, e, above),
+        b'G' => setting_line(&r),
         b'B' => declared(line, e, SpvType::Bool),
-        b'I' => int_line(line, e, above),
-        b'F' => float_line(line, e, above),
-        b'V' => vector_line(line, e, above),
-        b'M' => matrix_line(line, e, above),
-        b'A' => array_line(line, e, above),
-        b'R' => runtime_line(line, e, above),
-        b'S' => struct_line(line, e, above),
-        b'P' => pointer_line(line, e, above),
+        b'I' => int_line(&r),
+        b'F' => float_line(&r),
+        b'V' => vector_line(&r),
+        b'M' => matrix_line(&r),
+        b'A' => array_line(&r),
+        b'R' => runtime_line(&r),
+        b'S' => struct_line(&r),
+        b'P' => pointer_line(&r),
         b'O' => declared(line, e, SpvType::Opaque),
         b'U' => declared(line, e, SpvType::Unsupported),
-        b'D' => decoration_line(line, e, above),
-        b'T' => t_line(line, e, above),
-        b'E' => e_line(line, e, above),
-        b'Q' => q_line(line, e, above),
-        b'C' => c_line(line, e, above),
-        b'L' => l_line(line, e, above),
-        b'X' => x_line(line, e, above),
+        b'D' => decoration_line(&r),
+        b'T' => t_line(&r),
+        b'E' => e_line(&r),
+        b'Q' => q_line(&r),
+        b'C' => c_line(&r),
+        b'L' => l_line(&r),
+        b'X' => x_line(&r),
         _ => None,
     }
 }

@@ -9,6 +9,9 @@ use lines::SheetLine;
 use spirv::{DeclRow, Decoration, MemberDecoration, SpvType};
 use tally::{Place, Tally};
 
+// The three lists that are written, types, members and given, are lent apart: a struct of `&mut` lists proves inside the functions that take it, but of its
+// maker's lists nothing is known afterwards. Casts of u32 to usize widen, and have no From.
+
 // n zeros from `first` on.
 fn put_zeros(list: &mut [u32], first: u32, n: usize)
     ensures { list.new ≡ sets list.old first (replicate n 0) }
@@ -52,7 +55,7 @@ fn fresh_row(ty: SpvType, start: u32, count: u32) -> DeclRow
     }
 }
 
-// A type's row, its members, and zeros for their offsets.
+// A type's row, its members, and zeros for their offsets. The three values of the line that declares it come one by one, as a variant is no type of its own.
 fn put_type(
     line: &[u8],
     ty: SpvType,
@@ -66,6 +69,7 @@ fn put_type(
     requires { count ≤ 1024 }
     ensures { Declaring t line.now ty count at types.old members.old given.old types.new members.new given.new }
 {
+    // fits, by what is required
     let row = fresh_row(ty, t.members, count as u32);
     spirv::write_row(types, t.types, row);
     lines::put_members(line, at, t.types, members, t.members as usize);

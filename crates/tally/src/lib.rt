@@ -21,6 +21,7 @@ pub const MAX_MEMBERS: usize = 1_024;
 pub const MAX_INDICES: usize = 255;
 
 // What stands above a line: a struct, a decoration of one, or another line. A struct's row has what its D lines come to.
+// Three states: in two options a decoration could stand without its struct.
 #[derive(Clone, Copy, Debug, PartialEq, Eq, Hash)]
 pub enum Place {
     Closed,
@@ -38,7 +39,7 @@ pub struct Tally {
 
 // ---- decorations
 
-// The order of an AttrSet: by member, decoration, value.
+// The order of an AttrSet: by member, decoration, value. A function: with `<` in decorate's guard, neither of its cases is proved without naming this law.
 fn comes_before(a: MemberDecoration, b: MemberDecoration) -> bool
     ensures { result ≡ before a b }
 {
@@ -84,7 +85,7 @@ pub fn is_struct(ty: SpvType) -> bool
     matches!(ty, SpvType::Struct { .. })
 }
 
-// What stands above the line behind a type.
+// What stands above the line behind a type. The row is what puts::fresh_row makes of a struct: with that here, a type would be asked twice whether it is one.
 #[tactic(auto, unfolding(crate::specs::Counts::opened_by))]
 fn opened(ty: SpvType, start: u32, count: u32) -> Place
     ensures { result ≡ opened_by ty start count }
@@ -117,6 +118,7 @@ pub fn start(setting: LayoutConfig) -> Tally
 fn declare(t: Tally, ty: SpvType, count: usize) -> Result<Tally, Refusal>
     ensures { result ≡ declared_by t ty count }
 {
+    // widens; the two casts to u32 below fit by the bound. There is no From between u32 and usize
     let members = count.saturating_add(t.members as usize);
     if MAX_TYPES <= t.types || MAX_MEMBERS < members {
         return Err(Refusal::OVERSIZE);
