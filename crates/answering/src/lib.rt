@@ -17,7 +17,7 @@ pub fn put_answer(tables: &Tables<'_>, ask: Ask, list: &[u32], out: &mut [u8], a
         Ask::T(t) => replies::layout_line(&tables.layouts, t, out, at),
         Ask::E(t, u) => replies::equal_line(&tables.layouts, t, u, out, at),
         Ask::Q(t, start, end) => {
-            replies::components_line(&tables.layouts, t, start, end, out, at)
+            replies::components_line(&tables.layouts, t, start..end, out, at)
         }
         Ask::C { op, ptr, count } => pointing::chain_line(tables, op, ptr, count, list, out, at),
         Ask::L(ptr, member) => pointing::length_line(tables, ptr, member, out, at),

@@ -43,7 +43,7 @@ pub fn find_components(
     ensures { Whole (found_for table.now ty start end) out.old result out.new }
 {
     let layouts = flat::tables_in(table).layouts;
-    components::find_components_containing(&layouts, ty, start, end, out)
+    components::find_components_containing(&layouts, ty, start..end, out)
 }
 
 // ---- L

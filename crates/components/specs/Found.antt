@@ -1,5 +1,5 @@
 -- Document 01, "Lookup on elements" and "On fields", and Q's refusals, over the tables.
-use Rattle.std.specs.Prelude.{ℕ, ◌+◌, Bool, true, false, List, [], ◌∷◌, length, set, Option, Some, None, Ok}
+use Rattle.std.specs.Prelude.{ℕ, List, [], ◌∷◌, length, Option, Some, None, Ok}
 use Rattle.std.proofs.lemmas.List.Edits.{sets}
 use Rattle.arith.specs.InCode.{OrRefusal, err}
 use Rattle.arith.specs.Pairs.{both}
@@ -31,11 +31,6 @@ held_element (i ∷ rest) = Some i
 -- how many are found, and the list with them; what lies past its end is left out
 unfoldable pub counted : (out found : List ℕ) → ℕ × List ℕ
 counted out found = both (length found) (sets out 0 found)
-
--- one more of them, behind n that are there
-unfoldable pub kept : (hit : Bool) → (n i : ℕ) → List ℕ → ℕ × List ℕ
-kept true n i out = both (n + 1) (set out n i)
-kept false n i out = both n out
 
 -- the answer, and the list afterwards: untouched where the question is refused
 unfoldable pub lookup_both : (out : List ℕ) → Result (List ℕ) → OrRefusal ℕ × List ℕ

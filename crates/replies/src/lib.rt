@@ -8,6 +8,7 @@ ghost use Rattle.replies.specs.Replies.{layout_reply, equal_reply, equal_or_refu
 
 use arith::refusal::Refusal;
 use shapes::tables::Layouts;
+use std::ops::Range;
 
 // T. No line shows the types of fields, so it is the same for any members.
 #[tactic(auto, unfolding(arith::proofs::Opened::opened), using(printing::proofs::Types::any_types))]
@@ -53,15 +54,14 @@ const MAX_COMPONENTS: usize = 1_024;
 pub fn components_line(
     layouts: &Layouts<'_>,
     t: u32,
-    start: u32,
-    end: u32,
+    range: Range<u32>,
     out: &mut [u8],
     at: usize,
 ) -> usize
-    ensures { Printed (text_of (components_reply layouts.now.rows.now layouts.now.count layouts.now.offsets.now layouts.now.members.now t start end)) out.old at result out.new }
+    ensures { Printed (text_of (components_reply layouts.now.rows.now layouts.now.count layouts.now.offsets.now layouts.now.members.now t range.start range.end)) out.old at result out.new }
 {
     let mut found = [0u32; MAX_COMPONENTS];
-    match components::find_components_containing(layouts, t, start, end, &mut found) {
+    match components::find_components_containing(layouts, t, range, &mut found) {
         Ok(count) => printing::components_line(out, at, &found[..count]),
         Err(e) => printing::refusal_line(out, at, e.number),
     }
