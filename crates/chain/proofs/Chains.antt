@@ -16,6 +16,7 @@ use Rattle.arith.specs.Numbers.{max_i32, signed}
 use Rattle.arith.specs.InCode.{OrRefusal, err}
 use Rattle.spirv.specs.declared.Index.{Index}
 use Rattle.spirv.specs.declared.Index.TheVariants.{Known, Unknown}
+use Rattle.spirv.specs.Rows.{index_by}
 use Rattle.shapes.specs.declared.Components.{Components}
 use Rattle.shapes.specs.declared.Components.TheVariants.{Scalar, Elements, Fields}
 use Rattle.shapes.specs.declared.TypeLayout.{TypeLayout}
@@ -31,7 +32,7 @@ use Rattle.moves.specs.declared.Move.{Move}
 use Rattle.moves.specs.declared.Move.TheVariants.{Onward, Emit, Inside}
 use Rattle.moves.specs.declared.By.{By}
 use Rattle.moves.specs.declared.By.TheVariants as by
-use Rattle.moves.specs.Moves.{index_of, indices_in, by_offset, field_by, by_field, field_way, part_way, onward, by_constant, arrived, move_by, move_of}
+use Rattle.moves.specs.Moves.{indices_in, by_offset, field_by, by_field, field_way, part_way, onward, by_constant, arrived, move_by, move_of}
 use Rattle.moves.specs.Written.{before, in_room_behind}
 use Rattle.chain.specs.declared.Run.{Run}
 use Rattle.chain.specs.Chains.{weight, chain_from, on_from, chain_of, ran_on, Ran}
@@ -45,14 +46,14 @@ no_index [] h = refl
 no_index (w ∷ []) h = refl
 no_index (w ∷ k ∷ rest) h = absurd (omega arith)
 
-an_index : (chain : List ℕ) → 2 ≤ length chain → indices_in chain ≡ index_of (get_or chain 0 0) (get_or chain 1 0) ∷ indices_in (drop 2 chain)
+an_index : (chain : List ℕ) → 2 ≤ length chain → indices_in chain ≡ index_by (get_or chain 0 0) (get_or chain 1 0) ∷ indices_in (drop 2 chain)
 unfolding indices_in
 an_index [] h = absurd (omega arith)
 an_index (w ∷ []) h = absurd (omega arith)
 an_index (w ∷ k ∷ rest) h = refl
 
 -- the index behind the first `at` words
-index_at : (chain : List ℕ) (at : ℕ) → at + 2 ≤ length chain → indices_in (drop at chain) ≡ index_of (get_or chain at 0) (get_or chain (at + 1) 0) ∷ indices_in (drop (at + 2) chain)
+index_at : (chain : List ℕ) (at : ℕ) → at + 2 ≤ length chain → indices_in (drop at chain) ≡ index_by (get_or chain at 0) (get_or chain (at + 1) 0) ∷ indices_in (drop (at + 2) chain)
 index_at chain at h =
     let start : at + 0 ≡ at = omega arith in
     an_index (drop at chain) (omega (arith, length-drop at chain))
@@ -61,7 +62,7 @@ index_at chain at h =
 -- the two words in front of those that are left
 record Pair (chain : List ℕ) (at : ℕ) (pair rest : List ℕ) : Type 0 where
   fits : at + 2 ≤ length chain
-  index : index_of (get_or pair 0 0) (get_or pair 1 0) ≡ index_of (get_or chain at 0) (get_or chain (at + 1) 0)
+  index : index_by (get_or pair 0 0) (get_or pair 1 0) ≡ index_by (get_or chain at 0) (get_or chain (at + 1) 0)
   behind : rest ≡ drop (at + 2) chain
 
 pair_at : (chain : List ℕ) (at : ℕ) (pair rest : List ℕ) → length pair ≡ 2 → drop at chain ≡ pair ++ rest → Pair chain at pair rest
@@ -101,7 +102,7 @@ module _ (layouts offsets members : List ℕ) (types : ℕ) (chain : List ℕ) w
   walk_ends at l p h = rw (no_index (drop at chain) (omega (arith, length-drop at chain))) (no_more (answer_at layouts types) offsets members l p)
 
   by_move : (at : ℕ) (p : Pending) (m : OrRefusal Move) → at + 2 ≤ length chain
-      → follow (answer_at layouts types) offsets members m (index_of (get_or chain at 0) (get_or chain (at + 1) 0)) p (indices_in (drop (at + 2) chain)) ≡ followed at p m
+      → follow (answer_at layouts types) offsets members m (index_by (get_or chain at 0) (get_or chain (at + 1) 0)) p (indices_in (drop (at + 2) chain)) ≡ followed at p m
   unfolding on_from chain_from
   by_move at p (Err e) h = refl
   by_move at p (Ok (Onward u q)) h = refl
@@ -109,13 +110,13 @@ module _ (layouts offsets members : List ℕ) (types : ℕ) (chain : List ℕ) w
   by_move at p (Ok (Inside c)) h = rw (index_at chain at h)
 
   goes_by : (at : ℕ) (l : Place) (p : Pending) (m : OrRefusal Move) → at + 2 ≤ length chain
-      → move_of (answer_at layouts types) offsets members l (index_of (get_or chain at 0) (get_or chain (at + 1) 0)) p ≡ m
+      → move_of (answer_at layouts types) offsets members l (index_by (get_or chain at 0) (get_or chain (at + 1) 0)) p ≡ m
       → on_from layouts offsets members types chain at l p ≡ followed at p m
   unfolding on_from chain_from
   goes_by at l p m h e =
       rw (index_at chain at h)
-      (more (answer_at layouts types) offsets members l (index_of (get_or chain at 0) (get_or chain (at + 1) 0)) p (indices_in (drop (at + 2) chain))
-      ∙ ap (λ (x : OrRefusal Move). follow (answer_at layouts types) offsets members x (index_of (get_or chain at 0) (get_or chain (at + 1) 0)) p (indices_in (drop (at + 2) chain))) e
+      (more (answer_at layouts types) offsets members l (index_by (get_or chain at 0) (get_or chain (at + 1) 0)) p (indices_in (drop (at + 2) chain))
+      ∙ ap (λ (x : OrRefusal Move). follow (answer_at layouts types) offsets members x (index_by (get_or chain at 0) (get_or chain (at + 1) 0)) p (indices_in (drop (at + 2) chain))) e
       ∙ by_move at p m h)
 
   -- by the index and the move that the code found
@@ -125,7 +126,7 @@ module _ (layouts offsets members : List ℕ) (types : ℕ) (chain : List ℕ) w
     pub goes : on_from layouts offsets members types chain at l p ≡ followed at p m
 
   pub walk_goes : (at : ℕ) (l : Place) (p : Pending) (pair rest : List ℕ) {i : Index} {r m : OrRefusal Move} → length pair ≡ 2 → drop at chain ≡ pair ++ rest
-      → i ≡ index_of (get_or pair 0 0) (get_or pair 1 0) → r ≡ move_of (answer_at layouts types) offsets members l i p → r ≡ m → Goes at l p rest m
+      → i ≡ index_by (get_or pair 0 0) (get_or pair 1 0) → r ≡ move_of (answer_at layouts types) offsets members l i p → r ≡ m → Goes at l p rest m
   walk_goes at l p pair rest two e f g k =
       let x = pair_at chain at pair rest two e in
       record {

@@ -1,11 +1,12 @@
 -- Where one index of a chain leads, over tables of layouts: the code's decisions, by value.
-use Rattle.std.specs.Prelude.{ℕ, cond, List, [], ◌∷◌, eqb, leb, ℤ, pos, Ok, Err}
+use Rattle.std.specs.Prelude.{ℕ, cond, List, [], ◌∷◌, leb, ℤ, pos, Ok, Err}
 use Rattle.std.proofs.Math.Option.{Option, none, some}
 use Rattle.arith.specs.Refusals.{Result, ok, refused, no_parts, unknown_field, far_field}
 use Rattle.arith.specs.Numbers.{max_i32, signed}
 use Rattle.arith.specs.InCode.{OrRefusal, err}
 use Rattle.spirv.specs.declared.Index.{Index}
 use Rattle.spirv.specs.declared.Index.TheVariants.{Known, Unknown}
+use Rattle.spirv.specs.Rows.{index_by}
 use Rattle.shapes.specs.declared.Components.{Components}
 use Rattle.shapes.specs.declared.Components.TheVariants.{Scalar, Elements, Fields}
 use Rattle.shapes.specs.declared.TypeLayout.{TypeLayout}
@@ -26,13 +27,10 @@ use Rattle.moves.specs.declared.Move.TheVariants.{Onward, Emit, Inside}
 -- ---- the lent lists, read
 
 -- an index is two words: the word, and 0 where it is known
-abbrev pub index_of : (word kind : ℕ) → Index
-index_of word kind = cond (eqb kind 0) (Known word) (Unknown word)
-
 unfoldable pub indices_in : List ℕ → List Index
 indices_in [] = []
 indices_in (w ∷ []) = []
-indices_in (w ∷ k ∷ rest) = index_of w k ∷ indices_in rest
+indices_in (w ∷ k ∷ rest) = index_by w k ∷ indices_in rest
 
 -- ---- where an index leads, whatever the layout is there
 

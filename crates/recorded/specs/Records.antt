@@ -3,9 +3,9 @@ use Rattle.std.specs.Prelude.{ℕ, ◌≡◌, cond, List, ◌++◌, map, eqb, �
 use Rattle.arith.specs.Refusals.{Result, ok, refused}
 use Rattle.spirv.specs.declared.Index.{Index}
 use Rattle.spirv.specs.declared.Index.TheVariants.{Known, Unknown}
+use Rattle.spirv.specs.Rows.{index_by}
 use Rattle.lower.specs.declared.QPtrOp.{QPtrOp}
 use Rattle.lower.specs.declared.QPtrOp.TheVariants.{HandleArrayIndex, BufferData, Offset, DynOffset}
-use Rattle.steps.specs.Words.{index_of}
 use Rattle.moves.specs.Written.{steps_of}
 use Rattle.recorded.specs.declared.QPtrChainStep.{QPtrChainStep}
 
@@ -28,9 +28,9 @@ record_of (DynOffset stride bound i) = indexed 4 stride bound i
 -- an op that is none of the four reads as B
 unfoldable pub step_of : QPtrChainStep → QPtrOp
 step_of r =
-    cond (eqb r.op 1) (HandleArrayIndex (index_of r.index_kind r.index))
+    cond (eqb r.op 1) (HandleArrayIndex (index_by r.index r.index_kind))
     (cond (eqb r.op 3) (Offset r.bytes)
-    (cond (eqb r.op 4) (DynOffset r.stride r.length (index_of r.index_kind r.index))
+    (cond (eqb r.op 4) (DynOffset r.stride r.length (index_by r.index r.index_kind))
     BufferData))
 
 abbrev pub ReadsBack : Type 0

@@ -3,6 +3,7 @@ use Rattle.std.specs.Prelude.{ℕ, ◌-◌, ◌≡◌, Bool, true, cond, eqb, �
 use Rattle.arith.specs.Numbers.{max_u32, signed, is_i32}
 use Rattle.spirv.specs.declared.Index.{Index}
 use Rattle.spirv.specs.declared.Index.TheVariants.{Known, Unknown}
+use Rattle.spirv.specs.Rows.{index_by}
 use Rattle.lower.specs.declared.QPtrOp.{QPtrOp}
 use Rattle.lower.specs.declared.QPtrOp.TheVariants.{HandleArrayIndex, BufferData, Offset, DynOffset}
 use Rattle.steps.specs.declared.StepWords.{StepWords}
@@ -28,16 +29,12 @@ encode (DynOffset stride bound i) = with_index 4 stride bound i
 
 -- ---- and back
 
--- a mark other than 0 reads as unknown
-abbrev pub index_of : (mark index : ℕ) → Index
-index_of mark index = cond (eqb mark 0) (Known index) (Unknown index)
-
--- a kind that is none of the four reads as B
+-- a kind that is none of the four reads as B, a mark other than 0 as unknown
 unfoldable pub decode : StepWords → QPtrOp
 decode s =
-    cond (eqb s.kind 1) (HandleArrayIndex (index_of s.mark s.index))
+    cond (eqb s.kind 1) (HandleArrayIndex (index_by s.index s.mark))
     (cond (eqb s.kind 3) (Offset (signed s.bytes))
-    (cond (eqb s.kind 4) (DynOffset s.bytes s.bound (index_of s.mark s.index))
+    (cond (eqb s.kind 4) (DynOffset s.bytes s.bound (index_by s.index s.mark))
     BufferData))
 
 -- ---- each step is read back from its words, where its bytes, if it is an offset, fit signed 32 bits

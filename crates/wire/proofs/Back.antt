@@ -10,6 +10,7 @@ use lib.ListN.{length, drop, get_or, get_elem?, length-append}
 use Rattle.arith.specs.Refusals.{ok}
 use Rattle.arith.proofs.Results.{passed, value_is}
 use Rattle.spirv.specs.declared.Index.{Index}
+use Rattle.spirv.specs.Rows.{index_by}
 use Rattle.sheet.specs.Statements.{Fits, All, FitsIndex}
 use Rattle.words.specs.Little.{little, word_at, words_from, words_of}
 use Rattle.words.proofs.RoundTrip.{read_back}
@@ -17,7 +18,7 @@ use Rattle.lower.specs.declared.QPtrOp.{QPtrOp}
 use Rattle.steps.specs.declared.StepWords.{StepWords}
 use Rattle.steps.specs.Words.{encode, decode, offset_fits}
 use Rattle.steps.proofs.Back.{reads_back}
-use Rattle.moves.specs.Moves.{index_of, indices_in}
+use Rattle.moves.specs.Moves.{indices_in}
 use Rattle.wire.specs.Wire.{Byte, indices_of, words_bytes, step_bytes, steps_bytes, step_from, step_no}
 
 -- ---- steps
@@ -99,7 +100,7 @@ unfolding words_from
 words_fit zero s h = tt
 words_fit (suc n) s h = (word_fits s h, words_fit n (drop 4 s) (dropped s h 4))
 
-index_fits : (w k : ℕ) → Fits w → FitsIndex (index_of w k)
+index_fits : (w k : ℕ) → Fits w → FitsIndex (index_by w k)
 index_fits w k h = by (eqb k 0)
   where
     by : (b : Bool) → FitsIndex (cond b (Index.Known w) (Index.Unknown w))
