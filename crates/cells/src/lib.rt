@@ -10,6 +10,7 @@ ghost use Rattle.cells.specs.Behind.{behind};
 
 use lower::QPtrOp;
 use spirv::Index;
+use steps::Steps;
 
 pub fn number(out: &mut [u8], at: usize, n: u32) -> usize
     ensures { Printed (behind (decimal n ∷ [])) out.old at result out.new }
@@ -80,23 +81,14 @@ pub fn step(out: &mut [u8], at: usize, s: QPtrOp) -> usize
     }
 }
 
-// The first `count` steps that five lists of words hold.
-pub fn first_steps(
-    out: &mut [u8],
-    at: usize,
-    kinds: &[u32],
-    bytes: &[u32],
-    bounds: &[u32],
-    marks: &[u32],
-    indices: &[u32],
-    count: usize,
-) -> usize
-    ensures { Printed (behind (steps_fields (steps_in kinds.now bytes.now bounds.now marks.now indices.now count))) out.old at result out.new }
+// The first `count` steps of five lists.
+pub fn first_steps(out: &mut [u8], at: usize, steps: &Steps<'_>, count: usize) -> usize
+    ensures { Printed (behind (steps_fields (steps_in steps.now.kinds.now steps.now.bytes.now steps.now.bounds.now steps.now.marks.now steps.now.indices.now count))) out.old at result out.new }
 {
     let mut p = at;
+    // by index: a step has a word in each of five lists
     for j in 0..count {
-        let s = steps::step_at(kinds, bytes, bounds, marks, indices, j);
-        p = step(out, p, s);
+        p = step(out, p, steps.at(j));
     }
     p
 }

@@ -12,6 +12,7 @@ ghost use Rattle.fitting.specs.Prints.{Prints};
 use arith::refusal::Refusal;
 use printing::layouts;
 use shapes::{MemLayout, TypeLayout};
+use steps::Steps;
 
 // The text that `print` prints: it is measured first, on no room, and then written where it fits.
 fn put<F: Fn(&mut [u8]) -> usize>(out: &mut [u8], print: F) -> Result<usize, Refusal>
@@ -46,21 +47,11 @@ pub fn put_components_line(out: &mut [u8], found: &[u32]) -> Result<usize, Refus
     put(out, |out| printing::components_line(out, 0, found))
 }
 
-// `c`, then the first `count` steps that five lists of words hold.
-pub fn put_chain_line(
-    out: &mut [u8],
-    kinds: &[u32],
-    bytes: &[u32],
-    bounds: &[u32],
-    marks: &[u32],
-    indices: &[u32],
-    count: usize,
-) -> Result<usize, Refusal>
-    ensures { Whole (ok (chain_text (steps_in kinds.now bytes.now bounds.now marks.now indices.now count))) out.old result out.new }
+// `c`, then the first `count` steps of five lists.
+pub fn put_chain_line(out: &mut [u8], steps: &Steps<'_>, count: usize) -> Result<usize, Refusal>
+    ensures { Whole (ok (chain_text (steps_in steps.now.kinds.now steps.now.bytes.now steps.now.bounds.now steps.now.marks.now steps.now.indices.now count))) out.old result out.new }
 {
-    put(out, |out| {
-        printing::chain_line(out, 0, kinds, bytes, bounds, marks, indices, count)
-    })
+    put(out, |out| printing::chain_line(out, 0, steps, count))
 }
 
 // `l,offset,stride`.
@@ -78,8 +69,8 @@ pub fn put_variable_line(out: &mut [u8], m: Option<MemLayout>) -> Result<usize, 
 }
 
 // `e,number`.
-pub fn put_refusal_line(out: &mut [u8], n: u32) -> Result<usize, Refusal>
-    ensures { Whole (ok (refusal_text n)) out.old result out.new }
+pub fn put_refusal_line(out: &mut [u8], e: Refusal) -> Result<usize, Refusal>
+    ensures { Whole (ok (refusal_text e.number)) out.old result out.new }
 {
-    put(out, |out| printing::refusal_line(out, 0, n))
+    put(out, |out| printing::refusal_line(out, 0, e))
 }

@@ -26,7 +26,7 @@ fn write_refusal<W: Write>(out: &mut W, e: Refusal) -> io::Result<()>
     ensures { OnOk result (Appends (W.contents out.old) (W.contents out.new) (text_of (refused e.number))) }
 {
     let mut line = [0u8; 13];
-    let Ok(n) = fitting::put_refusal_line(&mut line, e.number) else {
+    let Ok(n) = fitting::put_refusal_line(&mut line, e) else {
         unreachable!()
     };
     out.write_all(&line[..n])

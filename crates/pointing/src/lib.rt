@@ -10,6 +10,7 @@ ghost use Rattle.pointing.specs.Pointing.{chain_words, chain_reply, length_reply
 use pointers::ArrayLength;
 use shapes::tables::Tables;
 use spirv::ChainOp;
+use steps::Steps;
 
 // The indices that a chain may have.
 const MAX_INDICES: usize = 255;
@@ -52,8 +53,17 @@ pub fn chain_line(
         &mut marks,
         &mut indices,
     ) {
-        Ok(k) => printing::chain_line(out, at, &kinds, &bytes, &bounds, &marks, &indices, k),
-        Err(e) => printing::refusal_line(out, at, e.number),
+        Ok(k) => {
+            let steps = Steps {
+                kinds: &kinds,
+                bytes: &bytes,
+                bounds: &bounds,
+                marks: &marks,
+                indices: &indices,
+            };
+            printing::chain_line(out, at, &steps, k)
+        }
+        Err(e) => printing::refusal_line(out, at, e),
     }
 }
 
@@ -64,7 +74,7 @@ pub fn length_line(tables: &Tables<'_>, ptr: u32, member: u32, out: &mut [u8], a
 {
     match pointers::array_length(tables, ptr, member) {
         Ok(ArrayLength { offset, stride }) => printing::length_line(out, at, offset, stride),
-        Err(e) => printing::refusal_line(out, at, e.number),
+        Err(e) => printing::refusal_line(out, at, e),
     }
 }
 
@@ -74,6 +84,6 @@ pub fn variable_line(tables: &Tables<'_>, ptr: u32, out: &mut [u8], at: usize) -
 {
     match pointers::local_variable(tables, ptr) {
         Ok(m) => printing::variable_line(out, at, m),
-        Err(e) => printing::refusal_line(out, at, e.number),
+        Err(e) => printing::refusal_line(out, at, e),
     }
 }

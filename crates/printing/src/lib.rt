@@ -8,7 +8,9 @@ ghost use Rattle.text.specs.Printed.{Printed};
 ghost use Rattle.steps.specs.Lists.{steps_in};
 ghost use Rattle.printing.specs.Texts.{equal_text, components_text, chain_text, length_text, variable_text, refusal_text};
 
+use arith::refusal::Refusal;
 use shapes::MemLayout;
+use steps::Steps;
 
 // `y` or `n`.
 #[tactic(auto, unfolding(answers::specs::Output::printed))]
@@ -31,21 +33,12 @@ pub fn components_line(out: &mut [u8], at: usize, found: &[u32]) -> usize
     text::byte(out, b, b'\n')
 }
 
-// `c`, then the first `count` steps that five lists of words hold.
-pub fn chain_line(
-    out: &mut [u8],
-    at: usize,
-    kinds: &[u32],
-    bytes: &[u32],
-    bounds: &[u32],
-    marks: &[u32],
-    indices: &[u32],
-    count: usize,
-) -> usize
-    ensures { Printed (chain_text (steps_in kinds.now bytes.now bounds.now marks.now indices.now count)) out.old at result out.new }
+// `c`, then the first `count` steps of five lists.
+pub fn chain_line(out: &mut [u8], at: usize, steps: &Steps<'_>, count: usize) -> usize
+    ensures { Printed (chain_text (steps_in steps.now.kinds.now steps.now.bytes.now steps.now.bounds.now steps.now.marks.now steps.now.indices.now count)) out.old at result out.new }
 {
     let a = text::byte(out, at, b'c');
-    let b = cells::first_steps(out, a, kinds, bytes, bounds, marks, indices, count);
+    let b = cells::first_steps(out, a, steps, count);
     text::byte(out, b, b'\n')
 }
 
@@ -75,10 +68,10 @@ pub fn variable_line(out: &mut [u8], at: usize, m: Option<MemLayout>) -> usize
 }
 
 // `e,number`.
-pub fn refusal_line(out: &mut [u8], at: usize, n: u32) -> usize
-    ensures { Printed (refusal_text n) out.old at result out.new }
+pub fn refusal_line(out: &mut [u8], at: usize, e: Refusal) -> usize
+    ensures { Printed (refusal_text e.number) out.old at result out.new }
 {
     let a = text::byte(out, at, b'e');
-    let b = cells::number(out, a, n);
+    let b = cells::number(out, a, e.number);
     text::byte(out, b, b'\n')
 }

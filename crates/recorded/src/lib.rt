@@ -3,7 +3,7 @@
 
 ghost use Rattle.std.specs.Prelude.{◌≡◌, ◌+◌, ◌*◌, ◌≤◌, min, pos, neg_ℤ, length};
 ghost use Rattle.arith.specs.Refusals.{in_room};
-ghost use Rattle.steps.specs.Lists.{step_at, steps_in};
+ghost use Rattle.steps.specs.Lists.{steps_in};
 ghost use Rattle.tabled.specs.Chains.{chain_in};
 ghost use Rattle.tabled.specs.InCode.{walk_in, held_by};
 ghost use Rattle.recorded.specs.Records.{indexed, record_of, records_over, Recorded};
@@ -12,6 +12,7 @@ ghost use Rattle.recorded.specs.Held.{Held};
 use arith::refusal::Refusal;
 use lower::QPtrOp;
 use spirv::Index;
+use steps::Steps;
 
 // Op 1 is H, 2 B, 3 O, 4 D. The bytes are a constant offset's. An index of kind 0 is known, one of kind 1 not. What a step does not have is 0.
 // Op and kind are words, and no enums, since C reads them.
@@ -70,55 +71,30 @@ pub fn record_of(s: QPtrOp) -> QPtrChainStep
 
 // ---- the records of the steps that five lists hold
 
-fn record_at(
-    i: usize,
-    kinds: &[u32],
-    bytes: &[u32],
-    bounds: &[u32],
-    marks: &[u32],
-    indices: &[u32],
-) -> QPtrChainStep
-    ensures { result ≡ record_of (step_at kinds.now bytes.now bounds.now marks.now indices.now i) }
-{
-    record_of(steps::step_at(kinds, bytes, bounds, marks, indices, i))
-}
-
 // The first n into the slice.
-fn write_records(
-    steps: &mut [QPtrChainStep],
-    n: usize,
-    kinds: &[u32],
-    bytes: &[u32],
-    bounds: &[u32],
-    marks: &[u32],
-    indices: &[u32],
-)
-    requires { n ≤ length steps.old }
-    ensures { steps.new ≡ records_over (steps_in kinds.now bytes.now bounds.now marks.now indices.now n) steps.old }
+fn write_records(records: &mut [QPtrChainStep], n: usize, steps: &Steps<'_>)
+    requires { n ≤ length records.old }
+    ensures { records.new ≡ records_over (steps_in steps.now.kinds.now steps.now.bytes.now steps.now.bounds.now steps.now.marks.now steps.now.indices.now n) records.old }
 {
     // by index: of what is written through iter_mut a proof knows nothing
     for i in 0..n {
-        steps[i] = record_at(i, kinds, bytes, bounds, marks, indices);
+        records[i] = record_of(steps.at(i));
     }
 }
 
 // The steps that a walk left in five lists, as records; 24 where these don't fit.
 fn put(
     walk: Result<usize, Refusal>,
-    kinds: &[u32],
-    bytes: &[u32],
-    bounds: &[u32],
-    marks: &[u32],
-    indices: &[u32],
-    steps: &mut [QPtrChainStep],
+    steps: &Steps<'_>,
+    records: &mut [QPtrChainStep],
 ) -> Result<usize, Refusal>
-    ensures { Held (in_room (length steps.old) length (held_by walk kinds.now bytes.now bounds.now marks.now indices.now)) result steps.old steps.new }
+    ensures { Held (in_room (length records.old) length (held_by walk steps.now.kinds.now steps.now.bytes.now steps.now.bounds.now steps.now.marks.now steps.now.indices.now)) result records.old records.new }
 {
     let n = walk?;
-    if steps.len() < n {
+    if records.len() < n {
         return Err(Refusal::SHORT_LIST);
     }
-    write_records(steps, n, kinds, bytes, bounds, marks, indices);
+    write_records(records, n, steps);
     Ok(n)
 }
 
@@ -153,7 +129,14 @@ fn lower<const STEPS: usize, const WORDS: usize>(
         &mut marks,
         &mut indices,
     );
-    put(walk, &kinds, &bytes, &bounds, &marks, &indices, steps)
+    let lists = Steps {
+        kinds: &kinds,
+        bytes: &bytes,
+        bounds: &bounds,
+        marks: &marks,
+        indices: &indices,
+    };
+    put(walk, &lists, steps)
 }
 
 // By how long the chain is.

@@ -17,7 +17,7 @@ pub fn layout_line(layouts: &Layouts<'_>, t: u32, out: &mut [u8], at: usize) -> 
 {
     match layouts.answer_at(t) {
         Ok(l) => printing::layouts::layout_line(out, at, l, layouts.offsets),
-        Err(e) => printing::refusal_line(out, at, e.number),
+        Err(e) => printing::refusal_line(out, at, e),
     }
 }
 
@@ -43,7 +43,7 @@ pub fn equal_line(
 {
     match same_lines(layouts, first, second) {
         Ok(same) => printing::equal_line(out, at, same),
-        Err(e) => printing::refusal_line(out, at, e.number),
+        Err(e) => printing::refusal_line(out, at, e),
     }
 }
 
@@ -63,6 +63,6 @@ pub fn components_line(
     let mut found = [0u32; MAX_COMPONENTS];
     match components::find_components_containing(layouts, t, range, &mut found) {
         Ok(count) => printing::components_line(out, at, &found[..count]),
-        Err(e) => printing::refusal_line(out, at, e.number),
+        Err(e) => printing::refusal_line(out, at, e),
     }
 }

@@ -10,6 +10,7 @@ use lower::QPtrOp;
 use spirv::Index;
 
 // Kind 1 is H, 2 B, 3 O, 4 D. The bytes are a constant offset's, as a word, or a stride. Mark 0 is a known index, 1 an unknown.
+// Kind and mark are words, and no enums: so the lists that C lends have them.
 #[derive(Clone, Copy, Debug, Default, PartialEq, Eq, Hash)]
 pub struct StepWords {
     pub kind: u32,
@@ -79,27 +80,33 @@ pub fn step_of(s: StepWords) -> QPtrOp
 
 // ---- in five lists
 
-// Step j of those that five lists hold.
-pub fn step_at(
-    kinds: &[u32],
-    bytes: &[u32],
-    bounds: &[u32],
-    marks: &[u32],
-    indices: &[u32],
-    j: usize,
-) -> QPtrOp
-    ensures { result ≡ step_at kinds.now bytes.now bounds.now marks.now indices.now j }
-{
-    step_of(StepWords {
-        kind: spirv::word_at(kinds, j),
-        bytes: spirv::word_at(bytes, j),
-        bound: spirv::word_at(bounds, j),
-        mark: spirv::word_at(marks, j),
-        index: spirv::word_at(indices, j),
-    })
+// Five lists that hold steps, to be read: step j has its five words at place j.
+#[derive(Clone, Copy)]
+pub struct Steps<'a> {
+    pub kinds: &'a [u32],
+    pub bytes: &'a [u32],
+    pub bounds: &'a [u32],
+    pub marks: &'a [u32],
+    pub indices: &'a [u32],
 }
 
-// A step at place n of the five lists.
+impl Steps<'_> {
+    // Step j.
+    #[tactic(auto, unfolding(crate::specs::Lists::step_at))]
+    pub fn at(&self, j: usize) -> QPtrOp
+        ensures { result ≡ step_at self.now.kinds.now self.now.bytes.now self.now.bounds.now self.now.marks.now self.now.indices.now j }
+    {
+        step_of(StepWords {
+            kind: spirv::word_at(self.kinds, j),
+            bytes: spirv::word_at(self.bytes, j),
+            bound: spirv::word_at(self.bounds, j),
+            mark: spirv::word_at(self.marks, j),
+            index: spirv::word_at(self.indices, j),
+        })
+    }
+}
+
+// A step at place n of the five lists. They are lent apart, here and in the walks above: of the lists in a struct that is handed on a maker knows nothing.
 pub fn store(
     s: QPtrOp,
     n: usize,

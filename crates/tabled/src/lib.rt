@@ -11,6 +11,7 @@ ghost use Rattle.tabled.specs.InCode.{walk_in, held_by};
 
 use arith::refusal::Refusal;
 use spirv::ChainOp;
+use steps::Steps;
 
 // The op that a number is, if it is one.
 #[tactic(auto, unfolding(crate::specs::Chains::op_of))]
@@ -81,22 +82,14 @@ pub fn walk_asked<const WORDS: usize>(
 // ---- as bytes
 
 // The steps that a walk left in five lists, as bytes; 24 where these don't fit.
-fn put(
-    walk: Result<usize, Refusal>,
-    kinds: &[u32],
-    bytes: &[u32],
-    bounds: &[u32],
-    marks: &[u32],
-    indices: &[u32],
-    out: &mut [u8],
-) -> Result<usize, Refusal>
-    ensures { Lowered (in_room (room_in out.old) length (held_by walk kinds.now bytes.now bounds.now marks.now indices.now)) result out.old out.new }
+fn put(walk: Result<usize, Refusal>, steps: &Steps<'_>, out: &mut [u8]) -> Result<usize, Refusal>
+    ensures { Lowered (in_room (room_in out.old) length (held_by walk steps.now.kinds.now steps.now.bytes.now steps.now.bounds.now steps.now.marks.now steps.now.indices.now)) result out.old out.new }
 {
     let n = walk?;
     if out.len() / 20 < n {
         return Err(Refusal::SHORT_LIST);
     }
-    wire::put_steps(out, 0, kinds, bytes, bounds, marks, indices, n);
+    wire::put_steps(out, 0, steps, n);
     Ok(n)
 }
 
@@ -129,7 +122,14 @@ fn lower<const STEPS: usize, const WORDS: usize>(
         &mut marks,
         &mut indices,
     );
-    put(walk, &kinds, &bytes, &bounds, &marks, &indices, out)
+    let steps = Steps {
+        kinds: &kinds,
+        bytes: &bytes,
+        bounds: &bounds,
+        marks: &marks,
+        indices: &indices,
+    };
+    put(walk, &steps, out)
 }
 
 // The bytes of 8 indices, for which short lists suffice.

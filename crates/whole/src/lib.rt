@@ -32,6 +32,6 @@ pub fn answer_sheet(sheet: &[u8], out: &mut [u8]) -> Result<usize, Refusal>
             };
             gathering::put_all(sheet, 0, &tables, out)
         }
-        Err(e) => fitting::put_refusal_line(out, e.number),
+        Err(e) => fitting::put_refusal_line(out, e),
     }
 }

@@ -7,7 +7,7 @@ ghost use Rattle.steps.specs.Lists.{steps_in};
 ghost use Rattle.wire.specs.Wire.{formed_bytes, words_bytes, steps_bytes};
 
 use lower::QPtrOp;
-use steps::StepWords;
+use steps::{StepWords, Steps};
 
 // Whether bytes are indices, eight bytes each.
 pub fn formed(s: &[u8]) -> bool
@@ -27,24 +27,14 @@ fn put_five(out: &mut [u8], at: usize, w: StepWords) -> usize
     words::put_word(out, d, w.index)
 }
 
-// The first `count` steps that five lists of words hold, printed as the crate `text` prints.
-pub fn put_steps(
-    out: &mut [u8],
-    at: usize,
-    kinds: &[u32],
-    bytes: &[u32],
-    bounds: &[u32],
-    marks: &[u32],
-    indices: &[u32],
-    count: usize,
-) -> usize
-    ensures { Printed (steps_bytes (steps_in kinds.now bytes.now bounds.now marks.now indices.now count)) out.old at result out.new }
+// The first `count` steps of five lists, printed as the crate `text` prints.
+pub fn put_steps(out: &mut [u8], at: usize, steps: &Steps<'_>, count: usize) -> usize
+    ensures { Printed (steps_bytes (steps_in steps.now.kinds.now steps.now.bytes.now steps.now.bounds.now steps.now.marks.now steps.now.indices.now count)) out.old at result out.new }
 {
     let mut p = at;
+    // by index: a step has a word in each of five lists
     for j in 0..count {
-        let s = steps::step_at(kinds, bytes, bounds, marks, indices, j);
-        let w = steps::words_of(s);
-        p = put_five(out, p, w);
+        p = put_five(out, p, steps::words_of(steps.at(j)));
     }
     p
 }

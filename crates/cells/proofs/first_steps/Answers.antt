@@ -8,4 +8,4 @@ pub loop-j-init : goal.loop-j-init
 loop-j-init c = rw no_steps (none _ _ (search rules))
 
 pub loop-j-preserved : goal.loop-j-preserved
-loop-j-preserved c = one_step_more _ _ _ _ _ _ (search rules) c.loop-j.invariant (rw c.step_at-s.ensures at c.step-p.ensures)
+loop-j-preserved c = one_step_more _ _ _ _ _ _ (search rules) c.loop-j.invariant (rw c.at.ensures at c.step-p.ensures)

@@ -7,5 +7,5 @@ use Rattle.recorded.proofs.lower.Goals as goal
 
 pub returns : goal.returns
 returns g c =
-    subst (λ o. Held (in_room (length c.args.steps.now) length o) c.put.result c.args.steps.now c.put.new.steps)
+    subst (λ o. Held (in_room (length c.args.steps.now) length o) c.put.result c.args.steps.now c.put.new.records)
     (held_in c.args.table.now _ _ c.args.chain.now (zeros_room g.row.STEPS) c.walk_asked-walk.ensures) c.put.ensures

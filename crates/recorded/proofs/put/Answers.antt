@@ -8,8 +8,8 @@ returns-in_err-n c =
     let p = err_from_is_err_and c.from_residual.result c.from_residual.ensures.1 in
     rw (p.1, p.2) (put_refused _ _ _ _ _ _ c.in_err-n.was)
 
-pub returns-then-steps-n : goal.returns-then-steps-n
-returns-then-steps-n c = put_short _ _ _ _ _ _ c.in_ok-n.was c.if-steps-n.true
+pub returns-then-records-n : goal.returns-then-records-n
+returns-then-records-n c = put_short _ _ _ _ _ _ c.in_ok-n.was c.if-records-n.true
 
 pub returns : goal.returns
-returns c = put_whole _ _ _ _ _ _ c.in_ok-n.was c.if-steps-n.false c.write_records.ensures
+returns c = put_whole _ _ _ _ _ _ c.in_ok-n.was c.if-records-n.false c.write_records.ensures

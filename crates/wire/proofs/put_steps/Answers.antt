@@ -9,4 +9,4 @@ loop-j-init c = rw no_steps (none _ _ (search rules))
 
 pub loop-j-preserved : goal.loop-j-preserved
 loop-j-preserved c =
-    one_step_more _ _ _ _ _ _ (search rules) c.loop-j.invariant (rw (c.words_of-w.ensures, c.step_at-s.ensures) at c.put_five-p.ensures)
+    one_step_more _ _ _ _ _ _ (search rules) c.loop-j.invariant (rw (c.words_of.ensures, c.at.ensures) at c.put_five-p.ensures)

@@ -5,4 +5,4 @@ use Rattle.text.specs.Printed.{Printed}
 use Rattle.wire.proofs.put_steps.Given as goal
 
 abbrev pub invariant-loop-j : goal.invariant-loop-j
-invariant-loop-j l = Printed (steps_bytes (steps_in l.kinds l.bytes l.bounds l.marks l.indices l.j)) l.initial.out l.at l.p l.out
+invariant-loop-j l = Printed (steps_bytes (steps_in l.steps.kinds.now l.steps.bytes.now l.steps.bounds.now l.steps.marks.now l.steps.indices.now l.j)) l.initial.out l.at l.p l.out
