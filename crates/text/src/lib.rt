@@ -1,5 +1,6 @@
 // Text goes into a lent slice at a place. What lies past the slice's end is left out; the answer is the place after the text either way.
 // So one function both measures, on an empty slice, and writes.
+// It is no `Display`: the contracts say which bytes stand where, and a formatter knows no place. The slice and the place are lent apart, since of the `&mut` slice in a struct its maker knows nothing afterwards.
 #![tactic(auto)]
 
 ghost use Rattle.std.specs.Prelude.{[], ◌∷◌};

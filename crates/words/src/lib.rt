@@ -24,6 +24,7 @@ pub fn read_word(s: &[u8], at: usize) -> u32
     requires { at + 4 ≤ length s.now }
     ensures { result ≡ word_at s.now at }
 {
+    // byte by byte: an array made of the slice by try_from brings an error that can't come
     u32::from_le_bytes([s[at], s[at + 1], s[at + 2], s[at + 3]])
 }
 
