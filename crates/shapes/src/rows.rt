@@ -5,6 +5,7 @@ ghost use Rattle.shapes.specs.Words.{encode};
 ghost use Rattle.shapes.specs.Rows.{row_at, answer_at};
 
 use crate::{TypeLayout, words};
+use arith::lists;
 use arith::refusal::Refusal;
 
 // Row i of a table; one that the table lacks is refused with 1.
@@ -12,12 +13,11 @@ use arith::refusal::Refusal;
 pub fn read_row(table: &[u32], i: u32) -> Result<TypeLayout, Refusal>
     ensures { result ≡ row_at table.now i }
 {
-    let at = 10 * i as usize;
-    let Some(ws) = table.get(at..at + 10) else {
-        return Err(Refusal::MISREAD);
-    };
-    words::answer(ws)
+    let row = lists::row::<u32, 10>(table, i).ok_or(Refusal::MISREAD)?;
+    words::answer(row)
 }
+
+// Here and below `as usize` widens: there is no `From` for it, and the check proves that a word fits.
 
 // Row i of a table, written; what lies past the table's end is left out.
 pub fn write_row(table: &mut [u32], i: u32, a: Result<TypeLayout, Refusal>)

@@ -1,5 +1,6 @@
 // A layout or a refusal as ten words: what it is, its number, what it is made of, size, alignments and runtime stride, and three words of its parts.
-ghost use Rattle.std.specs.Prelude.{◌≡◌, length};
+// The first and the third are numbers: C lends rows, in which any word may stand, so reading is by number, and refuses.
+ghost use Rattle.std.specs.Prelude.{◌≡◌};
 ghost use Rattle.shapes.specs.Settings.{setting_of};
 ghost use Rattle.shapes.specs.Words.{memory_words, handle_words, encode, components_of, memory_of, handle_of, answer_of, decode};
 
@@ -72,8 +73,7 @@ fn components_of(kind: u32, a: u32, b: u32, c: u32) -> Components
 
 // Memory whose words are these, if there is any.
 #[tactic(auto, unfolding(crate::specs::Words::memory_of))]
-fn memory_of(ws: &[u32]) -> MemTypeLayout
-    requires { length ws.now ≡ 10 }
+fn memory_of(ws: &[u32; 10]) -> MemTypeLayout
     ensures { result ≡ memory_of ws.now }
 {
     MemTypeLayout {
@@ -100,8 +100,7 @@ fn handle_of(kind: u32, m: MemTypeLayout) -> Handle
 
 // An answer whose words these are, if there is one.
 #[tactic(auto, unfolding(crate::specs::Words::answer_of))]
-fn answer_of(ws: &[u32]) -> Result<TypeLayout, Refusal>
-    requires { length ws.now ≡ 10 }
+fn answer_of(ws: &[u32; 10]) -> Result<TypeLayout, Refusal>
     ensures { result ≡ answer_of ws.now }
 {
     let m = memory_of(ws);
@@ -114,15 +113,13 @@ fn answer_of(ws: &[u32]) -> Result<TypeLayout, Refusal>
 }
 
 // The answer that words hold is the one whose words they are; words that are none's are refused with 1.
-#[tactic(auto, using(crate::proofs::ReadsBack::not_ten), unfolding(crate::specs::Words::decode))]
+#[tactic(auto, using(crate::proofs::ReadsBack::not_ten, spirv::proofs::Words::same_pointwise), unfolding(crate::specs::Words::decode))]
 pub fn answer(ws: &[u32]) -> Result<TypeLayout, Refusal>
     ensures { result ≡ decode ws.now }
 {
-    if ws.len() != 10 {
-        return Err(Refusal::MISREAD);
-    }
-    let a = answer_of(ws);
-    if spirv::same_words(&words(a), ws) {
+    let ten = ws.as_array().ok_or(Refusal::MISREAD)?;
+    let a = answer_of(ten);
+    if words(a) == *ten {
         a
     } else {
         Err(Refusal::MISREAD)
