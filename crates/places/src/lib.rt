@@ -1,11 +1,12 @@
 // What a walk needs of a layout, read from its row without sizes and alignments.
 #![tactic(auto)]
 
-ghost use Rattle.std.specs.Prelude.{◌≡◌, length, get_or};
+ghost use Rattle.std.specs.Prelude.{◌≡◌, get_or};
 ghost use Rattle.shapes.specs.Words.{decode};
 ghost use Rattle.shapes.specs.Rows.{answer_at};
 ghost use Rattle.places.specs.Places.{place_of, found_of, Parted, Made, Named};
 
+use arith::lists;
 use arith::refusal::Refusal;
 use shapes::tables::Layouts;
 use shapes::{Components, Handle, TypeLayout};
@@ -47,29 +48,27 @@ fn by_layout(ws: &[u32]) -> Result<Place, Refusal>
 }
 
 // The parts that a row of memory or a buffer names by three words, of kind 1, 2 or 3 by what it is made of; with none its layout must tell.
+// Kind, and tag below, are numbers: words of a row that C lends, in which any may stand.
 #[tactic(auto, using(crate::proofs::Rows::of_elements_lem, crate::proofs::Rows::of_fields, crate::proofs::Rows::of_scalar))]
-fn of_kind(ws: &[u32], kind: u32) -> Option<Components>
-    requires { (length ws.now ≡ 10) × Parted ws.now kind }
+fn of_kind(ws: &[u32; 10], kind: u32) -> Option<Components>
+    requires { Parted ws.now kind }
     ensures { Named ws.now result }
 {
-    match kind {
-        1 if ws[7..] == [0, 0, 0] => Some(Components::Scalar),
-        2 => Some(Components::Elements {
-            stride: ws[7],
-            elem: ws[8],
-            fixed_len: ws[9],
+    match (kind, ws[7], ws[8], ws[9]) {
+        (1, 0, 0, 0) => Some(Components::Scalar),
+        (2, stride, elem, fixed_len) => Some(Components::Elements {
+            stride,
+            elem,
+            fixed_len,
         }),
-        3 if ws[9] == 0 => Some(Components::Fields {
-            start: ws[7],
-            count: ws[8],
-        }),
+        (3, start, count, 0) => Some(Components::Fields { start, count }),
         _ => None,
     }
 }
 
 // The place that a row's words hold, which are made of these parts: 3 is memory, 1 a buffer.
 #[tactic(auto, using(crate::proofs::Rows::of_memory, crate::proofs::Rows::of_buffer))]
-fn of_tag(ws: &[u32], tag: u32, c: Components) -> Result<Place, Refusal>
+fn of_tag(ws: &[u32; 10], tag: u32, c: Components) -> Result<Place, Refusal>
     requires { Made ws.now c × (get_or ws.now 0 0 ≡ tag) }
     ensures { result ≡ found_of (decode ws.now) }
 {
@@ -81,8 +80,7 @@ fn of_tag(ws: &[u32], tag: u32, c: Components) -> Result<Place, Refusal>
 }
 
 // The place that a row's words hold, memory and buffers by their parts alone.
-fn by_parts(ws: &[u32]) -> Result<Place, Refusal>
-    requires { length ws.now ≡ 10 }
+fn by_parts(ws: &[u32; 10]) -> Result<Place, Refusal>
     ensures { result ≡ found_of (decode ws.now) }
 {
     if ws[1] != 0 {
@@ -102,9 +100,5 @@ pub fn place_at(layouts: &Layouts<'_>, t: u32) -> Result<Place, Refusal>
     if layouts.count <= t {
         return Err(Refusal::MISREAD);
     }
-    let at = 10 * t as usize;
-    let Some(ws) = layouts.rows.get(at..at + 10) else {
-        return Err(Refusal::MISREAD);
-    };
-    by_parts(ws)
+    by_parts(lists::row(layouts.rows, t).ok_or(Refusal::MISREAD)?)
 }
