@@ -1,13 +1,15 @@
 -- Laws of words stored into lists. Assumes nothing.
-use Prim.Native.Nat.{ℕ, zero, suc, ◌+◌, ◌-◌, ◌<◌, min}
+use Prim.Native.Nat.{ℕ, zero, suc, ◌+◌, ◌-◌, ◌<◌, ◌≤◌, min}
 use borrow.Rule.Slice.PartMut.{put_mid}
+use Rattle.std.proofs.lemmas.Bool.{cases_lt}
 use Rattle.std.proofs.lemmas.List.{take-replicate}
 use native.Mathlib.Omega.{arith}
-use mathlib.Core.Path.{◌≡◌, refl, sym, ◌∙◌}
+use mathlib.Core.Logic.{◌⊎◌, inl, inr}
+use mathlib.Core.Path.{◌≡◌, refl, sym, ap, ◌∙◌}
 use mathlib.Core.List.{List, [], ◌∷◌, ◌++◌}
 use lib.ListN.{length, set, take, replicate, length-replicate}
 use lib.Seq.{sets, set-set}
-use Rattle.arith.proofs.Stores.{sets_append, set_before, part_put}
+use Rattle.arith.proofs.Stores.{sets_append, set_before, all_put, part_put}
 
 -- the same places again
 pub sets_again : (vs ws l : List ℕ) (i : ℕ) → length vs ≡ length ws → sets (sets l i vs) i ws ≡ sets l i ws
@@ -43,8 +45,15 @@ words_more l a b n e = let z : 0 + length a ≡ n = omega arith in rw (sets_appe
 
 -- as many zeros as there is room for are stored, and so all
 pub zeros_put : (l z : List ℕ) (at n k m : ℕ) → k ≡ m → m ≡ min n (length l - at) → at < length l → z ≡ replicate m 0 → put_mid at k l z ≡ sets l at (replicate n 0)
-zeros_put l z at n k m e q h r =
-    let w : List ℕ = replicate n 0 in
-    let s : length w ≡ n = length-replicate {A = ℕ} n 0 in
-    let t : take m w ≡ z = take-replicate m n 0 (omega arith) ∙ sym r in
-    rw (← t) (part_put l at m k w e (omega arith) h)
+zeros_put l z at n k m e q h r = by (cases_lt m n)
+  where
+    s : length (replicate {A = ℕ} n 0) ≡ n
+    s = length-replicate {A = ℕ} n 0
+
+    by : (m < n) ⊎ (n ≤ m) → put_mid at k l z ≡ sets l at (replicate n 0)
+    by (inl a) =
+        let t : take m (replicate n 0) ≡ z = take-replicate m n 0 (omega arith) ∙ sym r in
+        rw (← t) (part_put l at k m (replicate n 0) e (omega arith) (omega (arith, s)))
+    by (inr a) =
+        let t : z ≡ replicate n 0 = r ∙ ap (λ (i : ℕ). replicate i 0) (omega arith) in
+        rw t (all_put l at k (replicate n 0) (omega (arith, s)) (omega (arith, s)))

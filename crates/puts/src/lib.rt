@@ -3,7 +3,7 @@
 
 ghost use Rattle.std.specs.Prelude.{◌≡◌, ◌+◌, ◌≤◌, replicate};
 ghost use Rattle.std.proofs.lemmas.List.Edits.{sets};
-ghost use Rattle.puts.specs.Puts.{offset_words, fresh_row, Declaring, Redecorating, Put, Putable};
+ghost use Rattle.puts.specs.Puts.{offset_words, fresh_row, Put, Putable};
 
 use lines::SheetLine;
 use spirv::{DeclRow, Decoration, MemberDecoration, SpvType};
@@ -55,42 +55,6 @@ fn fresh_row(ty: SpvType, start: u32, count: u32) -> DeclRow
     }
 }
 
-// A type's row, its members, and zeros for their offsets. The three values of the line that declares it come one by one, as a variant is no type of its own.
-fn put_type(
-    line: &[u8],
-    ty: SpvType,
-    count: usize,
-    at: usize,
-    t: Tally,
-    types: &mut [u32],
-    members: &mut [u32],
-    given: &mut [u32],
-)
-    requires { count ≤ 1024 }
-    ensures { Declaring t line.now ty count at types.old members.old given.old types.new members.new given.new }
-{
-    // fits, by what is required
-    let row = fresh_row(ty, t.members, count as u32);
-    spirv::write_row(types, t.types, row);
-    lines::put_members(line, at, t.types, members, t.members as usize);
-    put_zeros(given, t.members, count);
-}
-
-// The last struct's row anew, and its offset.
-fn put_decoration(
-    row: DeclRow,
-    d: MemberDecoration,
-    count: u32,
-    types: &mut [u32],
-    given: &mut [u32],
-)
-    requires { (row.read ≤ 65536) × (1 ≤ count) }
-    ensures { Redecorating row d count types.old given.old types.new given.new }
-{
-    spirv::write_row(types, count - 1, tally::reduce(row, d));
-    put_offset(given, row, d);
-}
-
 // What a line that is not refused writes.
 pub fn put(
     line: &[u8],
@@ -104,12 +68,19 @@ pub fn put(
     ensures { Put t line.now l types.old members.old given.old types.new members.new given.new }
 {
     match l {
+        // a type's row, its members, and zeros for their offsets
         Some(SheetLine::Declared { ty, count, at }) => {
-            put_type(line, ty, count, at, t, types, members, given);
+            // fits, by what is required
+            let row = fresh_row(ty, t.members, count as u32);
+            spirv::write_row(types, t.types, row);
+            lines::put_members(line, at, t.types, members, t.members as usize);
+            put_zeros(given, t.members, count);
         }
+        // the last struct's row anew, and its offset
         Some(SheetLine::Decorated(d)) => {
             if let Place::Open(row) | Place::After(row, _) = t.place {
-                put_decoration(row, d, t.types, types, given);
+                spirv::write_row(types, t.types - 1, tally::reduce(row, d));
+                put_offset(given, row, d);
             }
         }
         _ => {}
