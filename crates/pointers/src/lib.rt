@@ -1,7 +1,7 @@
 // What is asked of a pointer's type, over tables of types and layouts: its pointee, and the arms for OpArrayLength and OpVariable of lower.rs.
 #![tactic(auto)]
 
-ghost use Rattle.std.specs.Prelude.{ℕ, ◌≡◌, List, length};
+ghost use Rattle.std.specs.Prelude.{ℕ, ◌≡◌, List};
 ghost use Rattle.arith.specs.InCode.{in_code, as_option};
 ghost use Rattle.spirv.specs.Decl.{pointee_of};
 ghost use Rattle.spirv.specs.Rows.{decode_row};
@@ -13,6 +13,7 @@ ghost use Rattle.lower.specs.Other.{member_of, runtime_stride, stride_of_part, l
 ghost use Rattle.pointers.specs.OverTables.{pointee_of_row, pointee_at, length_of, length_over};
 ghost use Rattle.pointers.specs.InCode.{as_field, as_length, as_variable};
 
+use arith::lists;
 use arith::refusal::Refusal;
 use shapes::tables::{Layouts, Tables};
 use shapes::{Components, Handle, MemLayout, MemTypeLayout, TypeLayout};
@@ -38,17 +39,13 @@ fn by_row(ws: &[u32]) -> Result<u32, Refusal>
     pointee_of(r.ty)
 }
 
-// The tag of a pointer's row, as the crate `spirv` has it.
-const POINTER: u32 = b'P' as u32;
-
 // The same; a pointer's row is known by its words.
 #[tactic(auto, using(crate::proofs::PointerRows::of_pointer))]
-fn pointee_in(ws: &[u32]) -> Result<u32, Refusal>
-    requires { length ws.now ≡ 6 }
+fn pointee_in(ws: &[u32; 6]) -> Result<u32, Refusal>
     ensures { result ≡ in_code (pointee_of_row (decode_row ws.now)) }
 {
-    match ws {
-        &[POINTER, _, pointee, 0, 0, 0] => Ok(pointee),
+    match *ws {
+        [spirv::POINTER, _, pointee, 0, 0, 0] => Ok(pointee),
         _ => by_row(ws),
     }
 }
@@ -61,11 +58,7 @@ pub fn pointee_at(types: &[u32], n: u32, ptr: u32) -> Result<u32, Refusal>
     if n <= ptr {
         return Err(Refusal::MISREAD);
     }
-    let at = 6 * ptr as usize;
-    let Some(ws) = types.get(at..at + 6) else {
-        return Err(Refusal::MISREAD);
-    };
-    pointee_in(ws)
+    pointee_in(lists::row(types, ptr).ok_or(Refusal::MISREAD)?)
 }
 
 // ---- array length (OpArrayLength)
@@ -84,10 +77,12 @@ pub struct ArrayLength {
     pub stride: u32,
 }
 
+// Two lists, since a struct's fields are a span of each.
 #[tactic(auto, using(lower::proofs::Fields::no_offset, lower::proofs::Fields::no_type, lower::proofs::Fields::field_there))]
 fn field_at(offsets: &[u32], types: &[u32], member: u32) -> Result<Field, Refusal>
     ensures { result ≡ as_field (field_at offsets.now types.now member) }
 {
+    // no From: usize may be narrower; the check proves that it fits
     let at = member as usize;
     let offset = offsets.get(at).ok_or(Refusal::FIELD_OUTSIDE)?;
     let ty = types.get(at).ok_or(Refusal::FIELD_OUTSIDE)?;
@@ -104,9 +99,9 @@ fn member_of(layouts: &Layouts<'_>, c: Components, member: u32) -> Result<Field,
     let Components::Fields { start, count } = c else {
         return Err(Refusal::FIELD_OUTSIDE);
     };
-    let os = shapes::rows::span(layouts.offsets, start, count);
-    let ts = shapes::rows::span(layouts.members, start, count);
-    field_at(os, ts, member)
+    let offsets = shapes::rows::span(layouts.offsets, start, count);
+    let types = shapes::rows::span(layouts.members, start, count);
+    field_at(offsets, types, member)
 }
 
 #[tactic(auto, unfolding(arith::proofs::Opened::opened, lower::specs::Other::runtime_stride))]
