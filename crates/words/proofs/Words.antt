@@ -1,13 +1,15 @@
 -- The words that bytes spell, one by one. Assumes nothing.
-use Prim.Native.Nat.{min, ℕ, zero, suc, ◌+◌, ◌*◌, ◌/◌, ◌<◌}
+use Prim.Native.Nat.{min, ℕ, zero, suc, ◌+◌, ◌*◌, ◌/◌, ◌<◌, ◌≤◌}
 use native.Mathlib.Omega.{arith}
 use mathlib.Core.Path.{◌≡◌, refl, sym, ap, ◌∙◌}
 use mathlib.Core.List.{List, [], ◌∷◌}
+use mathlib.Core.Logic.{◌⊎◌, inl, inr}
 use lib.ListN.{length, get_or, set, take, drop}
-use lib.Seq.{sets, get_or-drop}
+use lib.Seq.{sets, get_or-drop, take_all}
 use mir.Syntax.{w32}
 use Rattle.std.specs.Int.{to_le_bytes, from_le_bytes}
-use Rattle.arith.proofs.Stores.{one_more, room_filled}
+use Rattle.std.proofs.lemmas.Bool.{cases_lt}
+use Rattle.arith.proofs.Stores.{one_more, rest_out}
 use Rattle.words.specs.Little.{little, joined, word_at, words_from, words_of}
 
 pub words_length : (n : ℕ) (s : List ℕ) → length (words_from n s) ≡ n
@@ -38,7 +40,11 @@ next_word l s i h =
     ∙ one_more l 0 (words_of s) i 0 (omega (arith, words_length (length s / 4) s))
 
 pub all_words : (l s : List ℕ) (i : ℕ) → i ≡ min (length l) (length s / 4) → sets l 0 (take i (words_of s)) ≡ sets l 0 (words_of s)
-all_words l s i h = room_filled l 0 i (words_of s) (omega (arith, h, words_length (length s / 4) s))
+all_words l s i h = by (cases_lt i (length (words_of s)))
+  where
+    by : (i < length (words_of s)) ⊎ (length (words_of s) ≤ i) → sets l 0 (take i (words_of s)) ≡ sets l 0 (words_of s)
+    by (inl few) = rest_out l 0 (words_of s) i (omega arith) (omega (arith, h, words_length (length s / 4) s))
+    by (inr all) = rw (take_all i (words_of s) all)
 
 -- ---- as the library has the bytes of a word
 

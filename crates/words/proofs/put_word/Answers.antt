@@ -1,6 +1,6 @@
 -- `words::put_word` meets its contract: all four bytes at once where they fit.
 use Rattle.std.proofs.Common.{◌≡◌, ◌+◌, ◌-◌, arith, ◌∙◌}
-use Rattle.arith.proofs.Stores.{part_put}
+use Rattle.arith.proofs.Stores.{all_put}
 use Rattle.words.specs.Little.{little}
 use Rattle.words.proofs.Words.{little_is}
 use Rattle.words.proofs.put_word.Goals as goal
@@ -12,7 +12,7 @@ returns-then-at-out c = record {
   bytes =
       let four : c.args.at + 4 - c.args.at ≡ 4 = omega arith in
       let e = c.copy_from_slice.ensures.after ∙ (c.to_le_bytes-bytes.ensures ∙ little_is c.args.w) in
-      rw e (part_put c.args.out.now c.args.at 4 _ (little c.args.w) four (omega arith) (omega arith));
+      rw e (all_put c.args.out.now c.args.at _ (little c.args.w) four (omega arith));
 }
 
 pub returns : goal.returns
