@@ -2,8 +2,6 @@
 // there are and a fold of each table. Tested against tools/tables; its own functions are proved safe, and promise nothing more.
 #![tactic(auto)]
 
-ghost use Rattle.std.specs.Prelude.{◌≤◌};
-
 use arith::refusal::Refusal;
 use asking::Question;
 use intake::Argument;
@@ -24,6 +22,7 @@ struct Asked {
     fold: u64,
 }
 
+// One word more. Casts here, of u32 to usize and of usize to u64, widen, and have no From.
 fn fold_word(h: u64, w: u64) -> u64 {
     (h % FOLD * 31 + w % FOLD) % FOLD
 }
@@ -48,19 +47,15 @@ fn op_number(op: ChainOp) -> u32 {
 // The fold of a question: its letter and its numbers, and a chain's indices.
 fn fold_ask(h: u64, a: Ask, indices: &[u32]) -> u64 {
     match a {
-        Ask::T(t) => fold(h, &[84, t], 2),
-        Ask::E(t, u) => fold(h, &[69, t, u], 3),
-        Ask::Q(t, from, to) => fold(h, &[81, t, from, to], 4),
+        Ask::T(t) => fold(h, &[u32::from(b'T'), t], 2),
+        Ask::E(t, u) => fold(h, &[u32::from(b'E'), t, u], 3),
+        Ask::Q(t, from, to) => fold(h, &[u32::from(b'Q'), t, from, to], 4),
         Ask::C { op, ptr, count } => {
-            let g = fold(h, &[67, op_number(op), ptr], 3);
-            if count <= 255 {
-                fold(fold_word(g, count as u64), indices, count * 2)
-            } else {
-                g
-            }
+            let g = fold(h, &[u32::from(b'C'), op_number(op), ptr], 3);
+            fold(fold_word(g, count as u64), indices, count.saturating_mul(2))
         }
-        Ask::L(t, field) => fold(h, &[76, t, field], 3),
-        Ask::X(t) => fold(h, &[88, t], 2),
+        Ask::L(t, field) => fold(h, &[u32::from(b'L'), t, field], 3),
+        Ask::X(t) => fold(h, &[u32::from(b'X'), t], 2),
     }
 }
 
@@ -78,26 +73,17 @@ fn fold_questions(sheet: &[u8], indices: &mut [u32]) -> Result<Asked, Refusal> {
     Ok(asked)
 }
 
-// How many members the type of a row has.
-fn row_members(row: &[u32]) -> usize
-    ensures { result ≤ 1024 }
-{
-    match row {
-        [83, _, _, count, ..] if *count <= 1024 => *count as usize,
-        _ => 0,
-    }
+// How many members the type of a row has; other types than structs have none.
+fn row_members(row: &[u32]) -> usize {
+    spirv::decode_row(row).map_or(0, |r| r.count as usize)
 }
 
 // The members of the structs among the first types.
 fn member_count(types: &[u32], count: usize) -> usize {
-    types.chunks_exact(6).take(count).fold(
-        0,
-        |n, row| if n <= 1024 { n + row_members(row) } else { n },
-    )
-}
-
-fn number(out: &mut impl Write, n: u64) -> io::Result<()> {
-    write!(out, " {n}")
+    types
+        .chunks_exact(6)
+        .take(count)
+        .fold(0, |n: usize, row| n.saturating_add(row_members(row)))
 }
 
 fn show(out: &mut impl Write, sheet: &[u8]) -> io::Result<()> {
@@ -109,17 +95,13 @@ fn show(out: &mut impl Write, sheet: &[u8]) -> io::Result<()> {
     match reading::read_sheet(sheet, &mut setting, &mut types, &mut members, &mut given) {
         Err(e) => write!(out, " e,{}", e.number)?,
         Ok(ts) => {
-            let ms = member_count(&types, ts as usize);
+            let n = ts as usize;
+            let ms = member_count(&types, n);
             let asked = fold_questions(sheet, &mut indices).unwrap_or_default();
-            number(out, u64::from(ts))?;
-            number(out, ms as u64)?;
-            number(out, asked.count as u64)?;
-            if ts <= 256 {
-                number(out, fold(fold(7, &setting, 6), &types, 6 * (ts as usize)))?;
-            }
-            number(out, fold(7, &members, ms))?;
-            number(out, fold(7, &given, ms))?;
-            number(out, asked.fold)?;
+            let rows = fold(fold(7, &setting, 6), &types, n.saturating_mul(6));
+            write!(out, " {ts} {ms} {} {rows}", asked.count)?;
+            write!(out, " {} {}", fold(7, &members, ms), fold(7, &given, ms))?;
+            write!(out, " {}", asked.fold)?;
         }
     }
     out.write_all(b"\n")
