@@ -66,6 +66,9 @@ fn go_on(
     Ok(Run::Ended(q))
 }
 
+// The two parts take all that a walk has: the tables, the chain and a place in it, what waits, and the five lists, which are lent apart, as document
+// 01 names them; of lists written through a struct of `&mut` nothing is known afterwards.
+
 // The struct part: fields, and elements at constant places, which are as fields are. It hands an index that gives a step to the array part.
 #[cycle(array_part_struct_part)]
 fn struct_part(

@@ -89,7 +89,7 @@ fn field_by(offset: u32, ty: u32, p: Option<i32>) -> Result<Way, Refusal>
     })
 }
 
-// Where an index leads inside a struct whose fields are these; a word above 2147483647 is a negative number.
+// Where an index leads inside a struct whose fields are these, spans of two lists of the tables that C lends; a word above 2147483647 is a negative number.
 #[tactic(auto, using(lower::proofs::Fields::word_negative, lower::proofs::Fields::word_past_offsets, lower::proofs::Fields::word_past_types, lower::proofs::Fields::word_there), unfolding(crate::specs::Moves::field_way))]
 fn field_way(offsets: &[u32], types: &[u32], i: Index, p: Option<i32>) -> Result<Way, Refusal>
     ensures { result ≡ field_way offsets.now types.now i p }
@@ -100,6 +100,7 @@ fn field_way(offsets: &[u32], types: &[u32], i: Index, p: Option<i32>) -> Result
     if i32::try_from(w).is_err() {
         return Err(Refusal::FIELD_OUTSIDE);
     }
+    // no `From`: a word fits
     let at = w as usize;
     let offset = offsets.get(at).ok_or(Refusal::FIELD_OUTSIDE)?;
     let ty = types.get(at).ok_or(Refusal::FIELD_OUTSIDE)?;
@@ -160,6 +161,8 @@ pub fn next_move(layouts: &Layouts<'_>, l: Place, i: Index, p: Option<i32>) -> R
 }
 
 // ---- steps in the lists
+
+// The five lists are lent apart, as document 01 names them: of lists written through a struct of `&mut` nothing is known afterwards.
 
 // How many steps there are once what waits is one.
 pub fn after(p: Option<i32>, n: usize) -> usize

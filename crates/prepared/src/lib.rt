@@ -13,7 +13,7 @@ pub struct Ready {
     pub n: u32,
 }
 
-// Lists of 1,536, 1,024, 1,024 and 2,560 words hold the tables of every sheet. A refusal leaves all as they were.
+// Lists of 1,536, 1,024, 1,024 and 2,560 words hold the tables of every sheet: memory is fixed, and lists that are written are lent apart. A refusal leaves all as they were.
 pub fn prepare(
     sheet: &[u8],
     types: &mut [u32],

@@ -13,7 +13,7 @@ use shapes::{Handle, LayoutConfig, TypeLayout, rows};
 use spirv::{DeclRow, Length, SpvType, Stride};
 use structs::Members;
 
-// Which rule a type follows.
+// Which rule a type follows: five kinds of arguments, an arm of `rule_of` for each kind of type.
 #[derive(Clone, Copy, Debug, PartialEq, Eq, Hash)]
 pub enum Rule {
     OfSetting { size: u32, align: u32 },
@@ -95,7 +95,8 @@ pub fn layout_of(
     by_rule(all, offsets, r, rule)
 }
 
-// The row of type i, from the rows below it.
+// The row of type i, from the rows below it. Here and below the lists are lent apart: of lists that are written through a struct of `&mut`
+// nothing is known afterwards, and what is only read is a `Members` as soon as the layouts below are known.
 #[tactic(auto, unfolding(crate::specs::Records::record_at))]
 fn add_record(
     cfg: LayoutConfig,
@@ -133,6 +134,7 @@ pub fn layouts(
 ) -> Result<(), Refusal>
     ensures { both result (both offsets.new layouts.new) ≡ filling cfg types.now members.now given.now offsets.old layouts.old n }
 {
+    // no `From`: a word fits
     if layouts.len() < 10 * n as usize {
         return Err(Refusal::SHORT_LIST);
     }

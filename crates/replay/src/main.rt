@@ -123,6 +123,7 @@ fn compare(out: &mut impl Write, name: &[u8], stored: &[u8], given: &[u8]) -> io
     if stored == given {
         return Ok(Count {
             sheets: 1,
+            // no `From`: a count fits
             answers: stored.split_inclusive(|b| *b == b'\n').count() as u64,
             differing: 0,
         });
@@ -151,6 +152,7 @@ fn read_record(bundle: &[u8], at: usize) -> Option<Record> {
     let sheet = behind(bundle, name, b'\n');
     let size = decimal::read_number(between(bundle, at, second.checked_sub(1)?))?;
     let answers_size = decimal::read_number(between(bundle, second, name.checked_sub(1)?))?;
+    // no `From`, here and below: a word fits
     let answers = sheet.wrapping_add(size as usize);
     Some(Record {
         name,

@@ -61,7 +61,7 @@ pub fn round_both(cfg: LayoutConfig, size: u32, mem: MaybeDynMemLayout) -> Resul
 
 // ---- vector, matrix and arrays
 
-// What legacy alignment goes by: a vector's length, or the setting.
+// What legacy alignment goes by: a vector's length, or the setting. Two rules of document 01: `None` would not say that the setting rules.
 #[derive(Clone, Copy, Debug, PartialEq, Eq, Hash)]
 pub enum Legacy {
     Vector(u32),
@@ -77,6 +77,7 @@ pub struct ArrayParams {
     pub legacy: Legacy,
 }
 
+// What tells each kind of array apart, a function a kind: the literals would stand at each caller in their place.
 pub fn vector_params(elem: u32, len: u32) -> ArrayParams
     ensures { result ≡ of_vector elem len }
 {
@@ -132,7 +133,7 @@ fn legacy_align(cfg: LayoutConfig, p: ArrayParams, legacy: u32) -> Result<u32, R
     }
 }
 
-// A runtime array's stride is its runtime stride.
+// A runtime array's stride is its runtime stride. In rows, as C has them, a length 0 is none, here and below.
 fn elements(p: ArrayParams, size: u32, align: u32, legacy_align: u32, stride: u32) -> TypeLayout
     ensures { result ≡ elements_of p size align legacy_align stride }
 {

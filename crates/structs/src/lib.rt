@@ -1,7 +1,7 @@
 // The struct rule of layout_of: members by span, what their decorations come to, then offsets, given or in turn, and size.
 #![tactic(auto)]
 
-ghost use Rattle.std.specs.Prelude.{◌≡◌, ◌+◌, ◌<◌, ◌≤◌, length, get_or, drop};
+ghost use Rattle.std.specs.Prelude.{◌≡◌, ◌+◌, ◌≤◌, length, drop};
 ghost use Rattle.std.proofs.lemmas.List.Edits.{sets};
 ghost use Rattle.arith.specs.InCode.{in_code};
 ghost use Rattle.arith.specs.Pairs.{both};
@@ -157,13 +157,12 @@ impl Members<'_> {
         member_of(rows::answer_at(self.layouts, self.n, t))
     }
 
-    // Member i, at its given offset if there is one.
+    // Member i, of type t, at its given offset if there is one.
     #[tactic(auto, unfolding(arith::proofs::Opened::opened, crate::specs::Steps::step_of))]
-    fn step_at(&self, i: usize, x: MaybeDynMemLayout) -> Result<Placed, Refusal>
-        requires { i < length self.now.types.now }
-        ensures { result ≡ in_code (mapped held_spot (step_of self.now.cfg (below_in self.now.layouts.now self.now.n) (drop i self.now.given.now) (extent_in x) (get_or self.now.types.now i 0))) }
+    fn step_at(&self, i: usize, t: u32, x: MaybeDynMemLayout) -> Result<Placed, Refusal>
+        ensures { result ≡ in_code (mapped held_spot (step_of self.now.cfg (below_in self.now.layouts.now self.now.n) (drop i self.now.given.now) (extent_in x) t)) }
     {
-        let m = self.member_at(self.types[i])?;
+        let m = self.member_at(t)?;
         match self.given.get(i) {
             Some(offset) => step_given(*offset, x, m),
             None => step_in_turn(self.cfg, x, m),
@@ -189,8 +188,8 @@ impl Members<'_> {
         ensures { result ≡ in_code (mapped held_extent (extent_of self.now.cfg (below_in self.now.layouts.now self.now.n) self.now.given.now (no_members self.now.cfg) self.now.types.now)) }
     {
         let mut x = no_members(self.cfg);
-        for i in 0..self.types.len() {
-            x = self.step_at(i, x)?.extent;
+        for (i, t) in self.types.iter().enumerate() {
+            x = self.step_at(i, *t, x)?.extent;
         }
         Ok(x)
     }
@@ -215,8 +214,8 @@ impl Members<'_> {
         ensures { offsets.new ≡ sets offsets.old at (offsets_of self.now.cfg (below_in self.now.layouts.now self.now.n) self.now.given.now (no_members self.now.cfg) self.now.types.now) }
     {
         let mut x = no_members(self.cfg);
-        for i in 0..self.types.len() {
-            let Ok(member) = self.step_at(i, x) else {
+        for (i, t) in self.types.iter().enumerate() {
+            let Ok(member) = self.step_at(i, *t, x) else {
                 return;
             };
             offsets[at + i] = member.offset;
@@ -236,7 +235,7 @@ impl Members<'_> {
     }
 }
 
-// The span lies within lists of these lengths.
+// The span lies within lists of these lengths. `as usize`, here and below, widens: there is no `From` for it.
 fn within(r: DeclRow, members: usize, given: usize, offsets: usize) -> bool
     ensures { result ≡ span_within r members given offsets }
 {
@@ -244,7 +243,7 @@ fn within(r: DeclRow, members: usize, given: usize, offsets: usize) -> bool
     end <= members && end <= given && end <= offsets
 }
 
-// With Block it is a buffer handle.
+// With Block it is a buffer handle. The flag is that of `SpvType::Struct`; two functions would say the rest twice.
 fn block_or(block: bool, r: DeclRow, mem: MaybeDynMemLayout) -> TypeLayout
     ensures { result ≡ block_or block (fields_at r mem) }
 {

@@ -13,7 +13,7 @@ returns-in-Some c =
     let k = c.in-Some.ensures.lookup in
     let within : a.i < length a.self.now.given.now = search rules in
     let there : get_or a.self.now.given.now a.i 0 ≡ c.in-Some.offset.now = search rules in
-    step_with a.self.now.cfg (below_in a.self.now.layouts.now a.self.now.n) (drop a.i a.self.now.given.now) (extent_in a.x) (get_or a.self.now.types.now a.i 0) _ c.in_ok-m.ensures
+    step_with a.self.now.cfg (below_in a.self.now.layouts.now a.self.now.n) (drop a.i a.self.now.given.now) (extent_in a.x) a.t _ c.in_ok-m.ensures
     (rw (drop-cons a.self.now.given.now a.i 0 within, there) c.step_given.ensures)
 
 pub returns-in-None : goal.returns-in-None
@@ -22,5 +22,5 @@ returns-in-None c =
     let a = c.args in
     let k = c.in-None.ensures.lookup in
     let past : length a.self.now.given.now ≤ a.i = search rules in
-    step_with a.self.now.cfg (below_in a.self.now.layouts.now a.self.now.n) (drop a.i a.self.now.given.now) (extent_in a.x) (get_or a.self.now.types.now a.i 0) _ c.in_ok-m.ensures
+    step_with a.self.now.cfg (below_in a.self.now.layouts.now a.self.now.n) (drop a.i a.self.now.given.now) (extent_in a.x) a.t _ c.in_ok-m.ensures
     (rw (drop_of_length-le a.self.now.given.now {i = a.i} past) c.step_in_turn.ensures)
