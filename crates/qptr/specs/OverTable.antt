@@ -10,7 +10,7 @@ use Rattle.wire.specs.Wire.{steps_bytes}
 use Rattle.flat.specs.Table.{table_words}
 use Rattle.flat.specs.Reads.{read_in}
 use Rattle.tabled.specs.Chains.{chain_in, room_in}
-use Rattle.qptr.specs.Answered.{code_of}
+use Rattle.recorded.specs.Code.{code_of}
 
 -- ---- a sheet, read into a table
 

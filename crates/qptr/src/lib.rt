@@ -3,23 +3,11 @@
 
 pub mod step_structs;
 
-ghost use Rattle.std.specs.Prelude.{◌≡◌};
-ghost use Rattle.qptr.specs.Answered.{code_of, Small, Answered};
+ghost use Rattle.qptr.specs.Answered.{Answered};
 ghost use Rattle.asked.specs.Asked.{layout_for, found_for, length_for, variable_for};
 ghost use Rattle.qptr.specs.OverTable.{TableRead, ChainLowered, Got};
 
-use arith::refusal::Refusal;
-
-// What C gets: a number of bytes, or minus the number of a refusal.
-fn code(a: Result<usize, Refusal>) -> i64
-    requires { Small a }
-    ensures { result ≡ code_of a }
-{
-    match a {
-        Ok(n) => n as i64,
-        Err(e) => recorded::refusal(e.number),
-    }
-}
+use recorded::code;
 
 // The answer lines of a sheet, as `lay` writes them, and how many bytes they have; -24 and `out` as it was where they don't fit.
 pub fn qptr_answer_sheet(sheet: &[u8], out: &mut [u8]) -> i64
@@ -36,7 +24,7 @@ pub fn qptr_read_sheet(sheet: &[u8], table: &mut [u32]) -> i64
 {
     match flat::read_table(sheet, table) {
         Ok(n) => i64::from(n),
-        Err(e) => recorded::refusal(e.number),
+        Err(e) => recorded::refusal(e),
     }
 }
 

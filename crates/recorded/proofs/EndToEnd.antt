@@ -22,7 +22,8 @@ use Rattle.tabled.proofs.Laws.{steps_size}
 use Rattle.tabled.proofs.EndToEnd.{in_sheet, kept_steps, chain_above}
 use Rattle.recorded.specs.declared.QPtrChainStep.{QPtrChainStep}
 use Rattle.recorded.specs.Records.{record_of, step_of, count_of, records_over, Recorded}
-use Rattle.recorded.specs.EndToEnd.{Calls, KeptRecords, EndToEnd, number_of, Same, SameSteps}
+use Rattle.recorded.specs.EndToEnd.{Calls, KeptRecords, EndToEnd, Same, SameSteps}
+use Rattle.recorded.specs.Code.{code_of}
 use Rattle.recorded.proofs.Laws.{reads_back}
 
 -- ---- records in front of a list
@@ -89,9 +90,9 @@ same_steps table op ptr chain w bytes bytes' answer old new room x y =
     by (chain_in (length old) table op ptr chain) (x.says ∙ ap (λ (k : ℕ). walk_of 0 (chain_in k table op ptr chain)) room) (x.holds ∙ ap (λ (k : ℕ). over (steps_bytes (steps_of (chain_in k table op ptr chain))) bytes) room) y.says y.holds
   where
     by : (q : Result (List QPtrOp)) → w ≡ walk_of 0 q → bytes' ≡ over (steps_bytes (steps_of q)) bytes → answer ≡ count_of q → new ≡ records_over (steps_of q) old → Same w bytes' answer new
-    by (refused e) a b d f = record { says = d ∙ ap number_of (sym a); steps = λ n g. absurd (let h = sym a ∙ g in let z : ◌≡◌ {A = ℕ} 0 1 = cc in omega arith) }
+    by (refused e) a b d f = record { says = d ∙ ap code_of (sym a); steps = λ n g. absurd (let h = sym a ∙ g in let z : ◌≡◌ {A = ℕ} 0 1 = cc in omega arith) }
     by (ok steps) a b d f = record {
-      says = d ∙ ap pos (omega arith) ∙ ap number_of (sym a);
+      says = d ∙ ap pos (omega arith) ∙ ap code_of (sym a);
       steps = λ n g.
           let h = sym a ∙ g in
           let m : 0 + length steps ≡ n = cc in

@@ -1,24 +1,31 @@
 -- Laws of steps as records. Assumes nothing.
-use Prim.Native.Nat.{ℕ, ◌+◌, ◌≤◌, ◌<◌}
+use Prim.Native.Nat.{ℕ, ◌+◌, ◌≤◌, ◌<◌, min}
 use native.Mathlib.Nat.{not-suc-le-zero, le_of_suc-le-suc}
 use native.Mathlib.Omega.{arith}
 use native.Mathlib.Numerals.{add-one}
-use mathlib.Core.Path.{◌≡◌, refl, sym, ap, ◌∙◌}
+use mathlib.Core.Path.{◌≡◌, refl, sym, ap, ◌∙◌, subst}
 use mathlib.Core.List.{List, [], ◌∷◌, ◌++◌}
 use lib.ListN.{length, set}
-use Rattle.arith.specs.Refusals.{in_room, short_list}
+use lib.IntN.{ℤ, pos}
+use Rattle.arith.specs.Refusals.{Result, ok, refused, in_room, short_list}
+use Rattle.arith.proofs.Results.{went, passed, in_room_lem}
 use Rattle.arith.specs.InCode.{OrRefusal, err}
 use Rattle.arith.specs.declared.refusal.Refusal.{Refusal}
 use Rattle.std.specs.Prelude.{Ok, Err}
+use Rattle.spirv.specs.declared.ChainOp.{ChainOp}
+use Rattle.spirv.specs.declared.Index.{Index}
 use Rattle.spirv.specs.declared.Index.TheVariants.{Known, Unknown}
 use Rattle.lower.specs.declared.QPtrOp.{QPtrOp}
 use Rattle.lower.specs.declared.QPtrOp.TheVariants.{HandleArrayIndex, BufferData, Offset, DynOffset}
 use Rattle.steps.specs.Lists.{step_at, steps_in}
+use Rattle.moves.specs.Written.{walk_of}
+use Rattle.tabled.specs.Chains.{places, chain_at, chain_in}
 use Rattle.tabled.specs.InCode.{held_by}
 use Rattle.tabled.proofs.Laws.{steps_count, held_refused, held_short, held_whole}
 use Rattle.recorded.specs.declared.QPtrChainStep.{QPtrChainStep}
-use Rattle.recorded.specs.Records.{record_of, step_of, ReadsBack, records_over}
+use Rattle.recorded.specs.Records.{record_of, step_of, ReadsBack, records_over, Recorded}
 use Rattle.recorded.specs.Held.{Held}
+use Rattle.recorded.specs.Code.{code_of, Small}
 
 -- ---- a step is read back from its record
 
@@ -73,3 +80,26 @@ module _ (ks bs ls ms is : List ℕ) (old : List QPtrChainStep) where
         let q = held_whole ks bs ls ms is (length old) h fits in
         let z : 0 + n ≡ n = omega arith in
         record { says = rw (q, steps_count ks bs ls ms is n, z); holds = rw q e }
+
+-- ---- one number
+
+within : (room : ℕ) (table : List ℕ) (o : ChainOp) (ptr : ℕ) (is : List Index) (steps : List QPtrOp) → chain_at room table o ptr is ≡ ok steps → length steps ≤ room
+unfolding chain_at
+within room table o ptr is steps h = let k = in_room_lem (min (places (length is)) room) length _ (passed _ _ (passed _ _ h)) in omega arith
+
+-- a chain in a room that is small
+pub small : (room : ℕ) (table : List ℕ) (op ptr : ℕ) (indices : List ℕ) {w : OrRefusal ℕ} → room < 9223372036854775808 → w ≡ walk_of 0 (chain_in room table op ptr indices) → Small w
+unfolding chain_in
+small room table op ptr indices h x = subst Small (sym x) (by (chain_in room table op ptr indices) refl)
+  where
+    by : (r : Result (List QPtrOp)) → chain_in room table op ptr indices ≡ r → Small (walk_of 0 r)
+    by (refused e) i = tt
+    by (ok steps) i =
+        let v = went _ _ i in
+        let u = went _ _ v.rest in
+        let k = within room table v.value ptr u.value steps u.rest in
+        omega arith
+
+pub recorded : (q : Result (List QPtrOp)) {r : OrRefusal ℕ} {x : ℤ} {old new : List QPtrChainStep} → Held q r old new → x ≡ code_of r → Recorded q x old new
+recorded (ok steps) h e = let z : 0 + length steps ≡ length steps = omega arith in record { says = e ∙ ap code_of h.says ∙ ap pos z; holds = h.holds }
+recorded (refused n) h e = record { says = e ∙ ap code_of h.says; holds = h.holds }

@@ -1,5 +1,5 @@
 -- Document 01, the third demand, from a sheet's bytes to a lent list of step records, through one table: `end_to_end`; and that the records are the steps that the bytes of `lower_chain` hold: `same_steps`.
-use Rattle.std.specs.Prelude.{ℕ, ◌*◌, ◌≤◌, ◌≡◌, List, Some, Ok, Err, map, ℤ, pos, neg_ℤ, length, take}
+use Rattle.std.specs.Prelude.{ℕ, ◌*◌, ◌≤◌, ◌≡◌, List, Some, Ok, map, ℤ, pos, length, take}
 use Rattle.arith.specs.Refusals.{ok}
 use Rattle.arith.specs.InCode.{OrRefusal}
 use Rattle.spirv.specs.declared.ChainOp.{ChainOp}
@@ -13,6 +13,7 @@ use Rattle.tabled.specs.Chains.{op_of, chain_in, room_in, Lowered}
 use Rattle.tabled.specs.EndToEnd.{KeptSteps}
 use Rattle.recorded.specs.declared.QPtrChainStep.{QPtrChainStep}
 use Rattle.recorded.specs.Records.{record_of, step_of, Recorded}
+use Rattle.recorded.specs.Code.{code_of}
 
 -- ---- end to end
 
@@ -53,14 +54,9 @@ EndToEnd = (input : List ℕ) (op ptr : ℕ) (chain : List ℕ) (c : Calls input
 
 -- ---- the bytes of `lower_chain`
 
--- a walk's answer as one number
-abbrev pub number_of : OrRefusal ℕ → ℤ
-number_of (Ok n) = pos n
-number_of (Err e) = neg_ℤ (pos e.number)
-
 -- the same answer, and where it is a count, the same steps
 pub record Same (w : OrRefusal ℕ) (bytes : List ℕ) (answer : ℤ) (records : List QPtrChainStep) : Type 0 where
-  pub says : answer ≡ number_of w
+  pub says : answer ≡ code_of w
   pub steps : (n : ℕ) → w ≡ Ok n → take (20 * n) bytes ≡ steps_bytes (map step_of (take n records))
 
 -- of the same table, op, type and indices, in the same room

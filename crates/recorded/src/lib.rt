@@ -1,13 +1,14 @@
 // Steps of a chain as records, in a slice of records that the caller lends.
 #![tactic(auto)]
 
-ghost use Rattle.std.specs.Prelude.{◌≡◌, ◌+◌, ◌*◌, ◌≤◌, min, pos, neg_ℤ, length};
+ghost use Rattle.std.specs.Prelude.{◌≡◌, ◌≤◌, pos, neg_ℤ, length};
 ghost use Rattle.arith.specs.Refusals.{in_room};
 ghost use Rattle.steps.specs.Lists.{steps_in};
 ghost use Rattle.tabled.specs.Chains.{chain_in};
-ghost use Rattle.tabled.specs.InCode.{walk_in, held_by};
+ghost use Rattle.tabled.specs.InCode.{held_by};
 ghost use Rattle.recorded.specs.Records.{indexed, record_of, records_over, Recorded};
 ghost use Rattle.recorded.specs.Held.{Held};
+ghost use Rattle.recorded.specs.Code.{code_of, Small};
 
 use arith::refusal::Refusal;
 use lower::QPtrOp;
@@ -69,7 +70,7 @@ pub fn record_of(s: QPtrOp) -> QPtrChainStep
     }
 }
 
-// ---- the records of the steps that five lists hold
+// ---- the records of a chain's steps
 
 // The first n into the slice.
 fn write_records(records: &mut [QPtrChainStep], n: usize, steps: &Steps<'_>)
@@ -98,70 +99,38 @@ fn put(
     Ok(n)
 }
 
-// ---- a chain
-
-// In lists of so many steps and words, which are cleared.
-fn lower<const STEPS: usize, const WORDS: usize>(
-    steps: &mut [QPtrChainStep],
+// The steps of a chain over a table, and how many.
+fn lower(
+    records: &mut [QPtrChainStep],
     op: u32,
     ptr: u32,
     table: &[u32],
     chain: &[u8],
 ) -> Result<usize, Refusal>
-    requires held { min (length chain.now) 2040 ≤ 4 * WORDS }
-    requires few { WORDS ≤ 510 }
-    requires tied { WORDS + 2 ≡ 2 * STEPS }
-    ensures { Held (in_room (length steps.old) length (walk_in STEPS table.now op ptr chain.now)) result steps.old steps.new }
+    ensures { Held (chain_in (length records.old) table.now op ptr chain.now) result records.old records.new }
 {
-    let mut kinds = [0u32; STEPS];
-    let mut bytes = [0u32; STEPS];
-    let mut bounds = [0u32; STEPS];
-    let mut marks = [0u32; STEPS];
-    let mut indices = [0u32; STEPS];
-    let walk = tabled::walk_asked::<WORDS>(
-        table,
-        op,
-        ptr,
-        chain,
-        &mut kinds,
-        &mut bytes,
-        &mut bounds,
-        &mut marks,
-        &mut indices,
-    );
-    let lists = Steps {
-        kinds: &kinds,
-        bytes: &bytes,
-        bounds: &bounds,
-        marks: &marks,
-        indices: &indices,
-    };
-    put(walk, &lists, steps)
-}
-
-// By how long the chain is.
-fn lower_any(
-    steps: &mut [QPtrChainStep],
-    op: u32,
-    ptr: u32,
-    table: &[u32],
-    chain: &[u8],
-) -> Result<usize, Refusal>
-    ensures { Held (chain_in (length steps.old) table.now op ptr chain.now) result steps.old steps.new }
-{
-    if chain.len() <= tabled::SHORT_CHAIN {
-        return lower::<9, 16>(steps, op, ptr, table, chain);
-    }
-    lower::<256, 510>(steps, op, ptr, table, chain)
+    tabled::lower_into(table, op, ptr, chain, records, put)
 }
 
 // ---- for C
 
 // Minus the number of a refusal.
-pub fn refusal(e: u32) -> i64
-    ensures { result ≡ neg_ℤ (pos e) }
+pub fn refusal(e: Refusal) -> i64
+    ensures { result ≡ neg_ℤ (pos e.number) }
 {
-    -i64::from(e)
+    -i64::from(e.number)
+}
+
+// A number of bytes, steps or words, or minus the number of a refusal.
+pub fn code(a: Result<usize, Refusal>) -> i64
+    requires { Small a }
+    ensures { result ≡ code_of a }
+{
+    match a {
+        // no From: a usize may be above i64; the check proves that it is not
+        Ok(n) => n as i64,
+        Err(e) => refusal(e),
+    }
 }
 
 // The steps of a chain over a table into the slice, and how many; or minus the refusal, and the slice as it was.
@@ -174,8 +143,5 @@ pub fn lower_access_chain(
 ) -> i64
     ensures { Recorded (chain_in (length steps.old) table.now op ptr chain.now) result steps.old steps.new }
 {
-    match lower_any(steps, op, ptr, table, chain) {
-        Ok(n) => n as i64,
-        Err(e) => refusal(e.number),
-    }
+    code(lower(steps, op, ptr, table, chain))
 }

@@ -7,7 +7,7 @@ ghost use Rattle.arith.specs.InCode.{in_code};
 ghost use Rattle.moves.specs.Written.{Wrote};
 ghost use Rattle.chain.specs.Chains.{room_of};
 ghost use Rattle.tabled.specs.Chains.{op_of, asked_in, chain_in, room_in, Lowered};
-ghost use Rattle.tabled.specs.InCode.{walk_in, held_by};
+ghost use Rattle.tabled.specs.InCode.{walk_in, held_by, PutBy, Walked};
 
 use arith::refusal::Refusal;
 use spirv::ChainOp;
@@ -93,18 +93,21 @@ fn put(walk: Result<usize, Refusal>, steps: &Steps<'_>, out: &mut [u8]) -> Resul
     Ok(n)
 }
 
+// The bytes of 8 indices, for which short lists suffice.
+const SHORT_CHAIN: usize = 64;
+
 // In lists of so many steps and words, which are cleared.
-fn lower<const STEPS: usize, const WORDS: usize>(
-    table: &[u32],
-    op: u32,
-    ptr: u32,
-    chain: &[u8],
-    out: &mut [u8],
-) -> Result<usize, Refusal>
+fn lower<
+    const STEPS: usize,
+    const WORDS: usize,
+    T,
+    F: Fn(Result<usize, Refusal>, &Steps<'_>, &mut [T]) -> Result<usize, Refusal>,
+>(table: &[u32], op: u32, ptr: u32, chain: &[u8], out: &mut [T], put: F) -> Result<usize, Refusal>
+    requires callable { F.IsAlwaysCallable put }
     requires held { min (length chain.now) 2040 ≤ 4 * WORDS }
     requires few { WORDS ≤ 510 }
     requires tied { WORDS + 2 ≡ 2 * STEPS }
-    ensures { Lowered (in_room (room_in out.old) length (walk_in STEPS table.now op ptr chain.now)) result out.old out.new }
+    ensures { PutBy F.Fn put (walk_in STEPS table.now op ptr chain.now) out.old result out.new }
 {
     let mut kinds = [0u32; STEPS];
     let mut bytes = [0u32; STEPS];
@@ -132,8 +135,23 @@ fn lower<const STEPS: usize, const WORDS: usize>(
     put(walk, &steps, out)
 }
 
-// The bytes of 8 indices, for which short lists suffice.
-pub const SHORT_CHAIN: usize = 64;
+// The steps of a chain into a list, as `put` puts those that a walk left in five lists.
+pub fn lower_into<T, F: Fn(Result<usize, Refusal>, &Steps<'_>, &mut [T]) -> Result<usize, Refusal>>(
+    table: &[u32],
+    op: u32,
+    ptr: u32,
+    chain: &[u8],
+    out: &mut [T],
+    put: F,
+) -> Result<usize, Refusal>
+    requires { F.IsAlwaysCallable put }
+    ensures { Walked table.now op ptr chain.now λ walk. PutBy F.Fn put walk out.old result out.new }
+{
+    if chain.len() <= SHORT_CHAIN {
+        return lower::<9, 16, T, F>(table, op, ptr, chain, out, put);
+    }
+    lower::<256, 510, T, F>(table, op, ptr, chain, out, put)
+}
 
 // The steps of a chain into `out`, 20 bytes each, and how many; or the refusal, and `out` as it was.
 pub fn lower_chain(
@@ -145,8 +163,5 @@ pub fn lower_chain(
 ) -> Result<usize, Refusal>
     ensures { Lowered (chain_in (room_in out.old) table.now op ptr chain.now) result out.old out.new }
 {
-    if chain.len() <= SHORT_CHAIN {
-        return lower::<9, 16>(table, op, ptr, chain, out);
-    }
-    lower::<256, 510>(table, op, ptr, chain, out)
+    lower_into(table, op, ptr, chain, out, put)
 }

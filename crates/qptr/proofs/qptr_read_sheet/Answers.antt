@@ -2,7 +2,7 @@
 use mir.Syntax.{w64}
 use mir.ValLaws.{to_z-of_z}
 use mathlib.Core.Path.{sym, ap, ◌∙◌}
-use Rattle.qptr.specs.Answered.{code_of}
+use Rattle.recorded.specs.Code.{code_of}
 use Rattle.qptr.proofs.Laws.{table_read}
 use Rattle.qptr.proofs.qptr_read_sheet.Goals as goal
 

@@ -1,7 +1,7 @@
--- `qptr::code` meets its contract. Assumes nothing.
+-- `recorded::code` meets its contract. Assumes nothing.
 use mir.Syntax.{w64}
 use mir.ValLaws.{to_z-of_z, to_z_pos}
-use Rattle.qptr.proofs.code.Goals as goal
+use Rattle.recorded.proofs.code.Goals as goal
 
 pub overflow_cast-result : goal.overflow_cast-result
 overflow_cast-result c = record { sfits = rw c.in-Ok.is at c.requires }
