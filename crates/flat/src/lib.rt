@@ -6,6 +6,7 @@ ghost use Rattle.flat.specs.Table.{TablesIn};
 ghost use Rattle.flat.specs.Reads.{ReadsTable, stored_parts};
 
 use arith::refusal::Refusal;
+use records::Declared;
 use shapes::rows;
 use shapes::tables::{Layouts, Tables};
 
@@ -17,8 +18,15 @@ fn store(n: u32, setting: &[u32], types: &[u32], members: &[u32], given: &[u32],
     let mut offsets = [0u32; 1024];
     let mut layouts = [0u32; 2560];
     let cfg = shapes::words::setting_of(setting);
+    let all = Declared {
+        cfg,
+        n,
+        types,
+        members,
+        given,
+    };
     // never short: no sheet has more than 256 types
-    let _ = records::layouts(cfg, n, types, members, given, &mut offsets, &mut layouts);
+    let _ = records::layouts(&all, &mut offsets, &mut layouts);
     spirv::put_words(table, 0, &count);
     spirv::put_words(table, 1, setting);
     spirv::put_words(table, 7, types);

@@ -4,6 +4,7 @@
 ghost use Rattle.prepared.specs.Prepared.{Prepares};
 
 use arith::refusal::Refusal;
+use records::Declared;
 use shapes::LayoutConfig;
 
 // What tables that are ready have: the setting, and how many types there are.
@@ -27,7 +28,14 @@ pub fn prepare(
     let mut given = [0u32; 1024];
     let n = reading::read_sheet(sheet, &mut setting, types, members, &mut given)?;
     let cfg = shapes::words::setting_of(&setting);
+    let all = Declared {
+        cfg,
+        n,
+        types,
+        members,
+        given: &given,
+    };
     // where the list of layouts is too short for the types, it stays as it was
-    let _ = records::layouts(cfg, n, types, members, &given, offsets, layouts);
+    let _ = records::layouts(&all, offsets, layouts);
     Ok(Ready { cfg, n })
 }

@@ -13,6 +13,16 @@ use shapes::{Handle, LayoutConfig, TypeLayout, rows};
 use spirv::{DeclRow, Length, SpvType, Stride};
 use structs::Members;
 
+// What a sheet declares: its setting, n types as rows, the members of its structs, and the offsets that its D lines give.
+#[derive(Clone, Copy)]
+pub struct Declared<'a> {
+    pub cfg: LayoutConfig,
+    pub n: u32,
+    pub types: &'a [u32],
+    pub members: &'a [u32],
+    pub given: &'a [u32],
+}
+
 // Which rule a type follows: five kinds of arguments, an arm of `rule_of` for each kind of type.
 #[derive(Clone, Copy, Debug, PartialEq, Eq, Hash)]
 pub enum Rule {
@@ -95,51 +105,35 @@ pub fn layout_of(
     by_rule(all, offsets, r, rule)
 }
 
-// The row of type i, from the rows below it. Here and below the lists are lent apart: of lists that are written through a struct of `&mut`
-// nothing is known afterwards, and what is only read is a `Members` as soon as the layouts below are known.
+// The row of type i, from the rows below it. Here and below the two lists that are written are lent apart: of lists written through a struct
+// of `&mut` nothing is known afterwards.
 #[tactic(auto, unfolding(crate::specs::Records::record_at))]
-fn add_record(
-    cfg: LayoutConfig,
-    i: u32,
-    types: &[u32],
-    members: &[u32],
-    given: &[u32],
-    offsets: &mut [u32],
-    layouts: &mut [u32],
-)
-    ensures { both offsets.new layouts.new ≡ record_at cfg i types.now members.now given.now offsets.old layouts.old }
+fn add_record(all: &Declared<'_>, i: u32, offsets: &mut [u32], layouts: &mut [u32])
+    ensures { both offsets.new layouts.new ≡ record_at all.now.cfg i all.now.types.now all.now.members.now all.now.given.now offsets.old layouts.old }
 {
-    let row = spirv::read_row(types, i);
+    let row = spirv::read_row(all.types, i);
     let below = Members {
-        cfg,
+        cfg: all.cfg,
         layouts,
         n: i,
-        types: members,
-        given,
+        types: all.members,
+        given: all.given,
     };
     let a = layout_of(&below, offsets, row);
     rows::write_row(layouts, i, a);
 }
 
-// The layouts of the first n types, and their members' offsets; 24, and nothing written, where the list of layouts is too short for them.
+// The layouts of these types, and their members' offsets; 24, and nothing written, where the list of layouts is too short for them.
 #[tactic(auto, unfolding(crate::specs::Records::filling))]
-pub fn layouts(
-    cfg: LayoutConfig,
-    n: u32,
-    types: &[u32],
-    members: &[u32],
-    given: &[u32],
-    offsets: &mut [u32],
-    layouts: &mut [u32],
-) -> Result<(), Refusal>
-    ensures { both result (both offsets.new layouts.new) ≡ filling cfg types.now members.now given.now offsets.old layouts.old n }
+pub fn layouts(all: &Declared<'_>, offsets: &mut [u32], layouts: &mut [u32]) -> Result<(), Refusal>
+    ensures { both result (both offsets.new layouts.new) ≡ filling all.now.cfg all.now.types.now all.now.members.now all.now.given.now offsets.old layouts.old all.now.n }
 {
     // no `From`: a word fits
-    if layouts.len() < 10 * n as usize {
+    if layouts.len() < 10 * all.n as usize {
         return Err(Refusal::SHORT_LIST);
     }
-    for i in 0..n {
-        add_record(cfg, i, types, members, given, offsets, layouts);
+    for i in 0..all.n {
+        add_record(all, i, offsets, layouts);
     }
     Ok(())
 }
