@@ -9,7 +9,7 @@ ghost use Rattle.answering.specs.OfTables.{source, question_in};
 use lines::Ask;
 use shapes::tables::Tables;
 
-// A chain's indices stand in front of the list, two words each.
+// A chain's indices stand in front of the list, two words each. An arm for each question: it hands on the words that the question has.
 pub fn put_answer(tables: &Tables<'_>, ask: Ask, list: &[u32], out: &mut [u8], at: usize) -> usize
     ensures { Printed (text_of (answer_by (source tables.now) (question_in ask list.now))) out.old at result out.new }
 {

@@ -43,6 +43,7 @@ pub fn index(out: &mut [u8], at: usize, i: Index) -> usize
     }
 }
 
+// Beside `number`: an i32 has a printer of its own, and a trait over both is longer than these two lines.
 fn signed(out: &mut [u8], at: usize, z: i32) -> usize
     ensures { Printed (behind (signed_decimal z ∷ [])) out.old at result out.new }
 {

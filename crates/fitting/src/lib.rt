@@ -26,6 +26,8 @@ fn put<F: Fn(&mut [u8]) -> usize>(out: &mut [u8], print: F) -> Result<usize, Ref
     Ok(print(out))
 }
 
+// ---- each line: one call, so that a caller gives what the line shows, and no closure that prints it
+
 // `t,form,len,size,align,legacy,dyn`, then field offsets, or the stride.
 pub fn put_layout_line(out: &mut [u8], l: TypeLayout, offsets: &[u32]) -> Result<usize, Refusal>
     ensures { Whole (ok (layout_text offsets.now l)) out.old result out.new }
@@ -33,7 +35,7 @@ pub fn put_layout_line(out: &mut [u8], l: TypeLayout, offsets: &[u32]) -> Result
     put(out, |out| layouts::layout_line(out, 0, l, offsets))
 }
 
-// `y` or `n`.
+// `y` or `n`, by the bool that the Rust answers.
 pub fn put_equal_line(out: &mut [u8], same: bool) -> Result<usize, Refusal>
     ensures { Whole (ok (equal_text same)) out.old result out.new }
 {

@@ -35,7 +35,7 @@ fn put_through(
     Ok(size)
 }
 
-// All of these lines, or nothing. The answers of a sheet are seldom longer than the sheet twice over: the list of our own is chosen by that.
+// All of these lines, or nothing. The answers of a sheet are seldom longer than the sheet twice over: the list of our own is chosen by that, in two calls, since an array's length is a constant.
 pub fn put_all(
     sheet: &[u8],
     from: usize,

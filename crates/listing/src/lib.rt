@@ -9,7 +9,7 @@ ghost use Rattle.listing.specs.Listing.{lines_from, filled_with, Fills};
 
 use shapes::tables::Tables;
 
-// The lines of the questions from a place of the sheet on, printed as the crate `text` prints.
+// The lines of the questions from a place of the sheet on, printed as the crate `text` prints. No iterator, here and in `fill`: each question's indices are read into the same list.
 pub fn put_answers(
     sheet: &[u8],
     from: usize,
@@ -19,7 +19,7 @@ pub fn put_answers(
 ) -> usize
     ensures { Printed (lines_from (source tables.now) sheet.now from) out.old at result out.new }
 {
-    let mut list = [0u32; 510];
+    let mut list = [0u32; chain::MAX_WORDS];
     let mut place = from;
     let mut p = at;
     while let Some(q) = asking::next_question(sheet, place, &mut list).unwrap_or(None) {
@@ -30,7 +30,7 @@ pub fn put_answers(
 }
 
 // What a buffer was filled with: so many bytes, which are whole lines. Where there are more, the next one, of the question at or behind the place
-// `next`, doesn't fit behind them.
+// `next`, doesn't fit behind them. No Option of a place: where there are no more, `next` and `bytes` tell, too, how far the lines go.
 #[derive(Clone, Copy)]
 pub struct Filled {
     pub next: usize,
@@ -38,6 +38,7 @@ pub struct Filled {
     pub more: bool,
 }
 
+// A literal would take five lines at each of two places.
 fn with(next: usize, bytes: usize, more: bool) -> Filled
     ensures { result ≡ filled_with next bytes more }
 {
@@ -48,7 +49,7 @@ fn with(next: usize, bytes: usize, more: bool) -> Filled
 pub fn fill(sheet: &[u8], from: usize, tables: &Tables<'_>, out: &mut [u8]) -> Filled
     ensures { Fills (source tables.now) sheet.now from result out.old out.new }
 {
-    let mut list = [0u32; 510];
+    let mut list = [0u32; chain::MAX_WORDS];
     let mut next = from;
     let mut bytes = 0;
     while let Some(q) = asking::next_question(sheet, next, &mut list).unwrap_or(None) {

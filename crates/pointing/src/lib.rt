@@ -13,18 +13,21 @@ use spirv::ChainOp;
 use steps::Steps;
 
 // The indices that a chain may have.
-const MAX_INDICES: usize = 255;
+const MAX_INDICES: usize = chain::MAX_WORDS / 2;
 
-// The steps that a chain may have, one more than indices.
-const MAX_STEPS: usize = 256;
+// The steps that a chain may have.
+const MAX_STEPS: usize = MAX_INDICES + 1;
 
 fn words_of(count: usize) -> u32
     ensures { result ≡ min (2 * count) 510 }
 {
+    // no From: a usize may be wider; the check proves that 510 fits
     2 * count.min(MAX_INDICES) as u32
 }
 
-// C, with room for that many steps; `count` indices stand in front of the list.
+// ---- the answer's line, or its refusal's: two arms each time, since one function over them would take the line as a closure, in as many lines
+
+// C, with room for that many steps; `count` indices stand in front of the list. Seven parameters: C's three words are fields of a variant of `Ask`, which is no type to hand on.
 pub fn chain_line(
     tables: &Tables<'_>,
     op: ChainOp,
@@ -37,6 +40,7 @@ pub fn chain_line(
     ensures { Printed (text_of (chain_reply tables.now.layouts.count tables.now.types.now tables.now.layouts.rows.now tables.now.layouts.offsets.now tables.now.layouts.members.now tables.now.cfg op ptr (indices_in (chain_words count list.now)))) out.old at result out.new }
 {
     let chain = shapes::rows::span(list, 0, words_of(count));
+    // lent apart, as `steps::store` takes them
     let mut kinds = [0u32; MAX_STEPS];
     let mut bytes = [0u32; MAX_STEPS];
     let mut bounds = [0u32; MAX_STEPS];

@@ -35,7 +35,7 @@ fn memory(out: &mut [u8], at: usize, m: MemTypeLayout, offsets: &[u32]) -> usize
     parts(out, d, components, offsets)
 }
 
-// The line of memory, of a buffer, or of an array of buffers.
+// The line of memory, of a buffer, or of an array of buffers. Six parameters: a struct of form, length, memory and offsets would be written out at each of three calls.
 fn memory_line(
     out: &mut [u8],
     at: usize,
@@ -54,7 +54,7 @@ fn memory_line(
     text::byte(out, e, b'\n')
 }
 
-// The line of an opaque, or of an array of them.
+// The line of an opaque, or of an array of them: as that of memory, but for the numbers. What they share is four calls, and would need five parameters.
 fn opaque_line(out: &mut [u8], at: usize, form: &[u8], len: u32) -> usize
     ensures { Printed (printed (bytes "t" ∷ form.now ∷ decimal len ∷ opaque_fields)) out.old at result out.new }
 {

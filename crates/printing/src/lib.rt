@@ -12,7 +12,7 @@ use arith::refusal::Refusal;
 use shapes::MemLayout;
 use steps::Steps;
 
-// `y` or `n`.
+// `y` or `n`, by the bool that the Rust answers.
 #[tactic(auto, unfolding(answers::specs::Output::printed))]
 pub fn equal_line(out: &mut [u8], at: usize, same: bool) -> usize
     ensures { Printed (equal_text same) out.old at result out.new }
@@ -24,6 +24,7 @@ pub fn equal_line(out: &mut [u8], at: usize, same: bool) -> usize
     }
 }
 
+// A line is its letter, its fields and LF, here and below: calls in a row, since a list of fields to print would have to be stored.
 // `q`, then components.
 pub fn components_line(out: &mut [u8], at: usize, found: &[u32]) -> usize
     ensures { Printed (components_text found.now) out.old at result out.new }

@@ -1,4 +1,4 @@
-// Steps of a chain as records, in a slice of records that the caller lends.
+// A chain's steps as records that C reads, lowered into a slice of records that the caller lends; and the one number that C gets of any answer.
 #![tactic(auto)]
 
 ghost use Rattle.std.specs.Prelude.{◌≡◌, ◌≤◌, pos, neg_ℤ, length};
@@ -30,6 +30,7 @@ pub struct QPtrChainStep {
 
 // ---- the record of a step
 
+// As `steps::with_index`, for a record: its fields have other names, and its bytes a sign.
 fn with_index(op: u32, stride: u32, length: u32, i: Index) -> QPtrChainStep
     ensures { result ≡ indexed op stride length i }
 {
@@ -47,6 +48,7 @@ fn with_index(op: u32, stride: u32, length: u32, i: Index) -> QPtrChainStep
     }
 }
 
+// No From: an impl with its law is longer, and says what the clause here says.
 #[tactic(auto, unfolding(crate::specs::Records::record_of))]
 pub fn record_of(s: QPtrOp) -> QPtrChainStep
     ensures { result ≡ record_of s }

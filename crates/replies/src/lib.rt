@@ -10,6 +10,8 @@ use arith::refusal::Refusal;
 use shapes::tables::Layouts;
 use std::ops::Range;
 
+// ---- the answer's line, or its refusal's: two arms each time, since one function over them would take the line as a closure, in as many lines
+
 // T. No line shows the types of fields, so it is the same for any members.
 #[tactic(auto, unfolding(arith::proofs::Opened::opened), using(printing::proofs::Types::any_types))]
 pub fn layout_line(layouts: &Layouts<'_>, t: u32, out: &mut [u8], at: usize) -> usize
@@ -47,7 +49,7 @@ pub fn equal_line(
     }
 }
 
-// As many components as a sheet has members.
+// As many components as a sheet has members: tally's MAX_MEMBERS, but no reader of sheets stands below this crate.
 const MAX_COMPONENTS: usize = 1_024;
 
 // Q, with room for that many.

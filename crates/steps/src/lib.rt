@@ -10,7 +10,7 @@ use lower::QPtrOp;
 use spirv::Index;
 
 // Kind 1 is H, 2 B, 3 O, 4 D. The bytes are a constant offset's, as a word, or a stride. Mark 0 is a known index, 1 an unknown.
-// Kind and mark are words, and no enums: so the lists that C lends have them.
+// Kind and mark are words, and no enums: the lists are lists of words.
 #[derive(Clone, Copy, Debug, Default, PartialEq, Eq, Hash)]
 pub struct StepWords {
     pub kind: u32,
@@ -35,7 +35,7 @@ fn with_index(kind: u32, bytes: u32, bound: u32, i: Index) -> StepWords
     }
 }
 
-// The words of a step.
+// The words of a step. This and `step_of` are no From: an impl with its law is longer, and says what the clause here says.
 pub fn words_of(s: QPtrOp) -> StepWords
     ensures { result ≡ encode s }
 {
@@ -106,7 +106,7 @@ impl Steps<'_> {
     }
 }
 
-// A step at place n of the five lists. They are lent apart, here and in the walks above: of the lists in a struct that is handed on a maker knows nothing.
+// A step at place n of the five lists. They are lent apart, as document 01 has them, here and in the crates above: of the lists in a struct that was handed on its maker knows nothing.
 pub fn store(
     s: QPtrOp,
     n: usize,

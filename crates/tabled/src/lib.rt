@@ -13,7 +13,7 @@ use arith::refusal::Refusal;
 use spirv::ChainOp;
 use steps::Steps;
 
-// The op that a number is, if it is one.
+// The op that a number is, if it is one: SPIR-V's numbers, as C hands them over.
 #[tactic(auto, unfolding(crate::specs::Chains::op_of))]
 fn op_of(op: u32) -> Option<ChainOp>
     ensures { result ≡ op_of op }
@@ -39,7 +39,7 @@ pub fn ask(table: &[u32], op: u32, ptr: u32, chain: &[u8]) -> Result<ChainOp, Re
     if spirv::word_at(table, 0) <= ptr {
         return Err(Refusal::MISREAD);
     }
-    if 255 < chain.len() / 8 {
+    if tally::MAX_INDICES < chain.len() / 8 {
         return Err(Refusal::OVERSIZE);
     }
     Ok(asked)
@@ -48,6 +48,7 @@ pub fn ask(table: &[u32], op: u32, ptr: u32, chain: &[u8]) -> Result<ChainOp, Re
 // ---- into five lists
 
 // The steps of what is asked into five lists; the indices' words are read into a list of WORDS, which is cleared: a short chain has a short one.
+// Nine parameters: what C asks, and five lists, lent apart as `steps::store` takes them. The bounds of WORDS and of STEPS are clauses here and below: Rattle has no const block to assert them.
 pub fn walk_asked<const WORDS: usize>(
     table: &[u32],
     op: u32,
@@ -135,7 +136,7 @@ fn lower<
     put(walk, &steps, out)
 }
 
-// The steps of a chain into a list, as `put` puts those that a walk left in five lists.
+// The steps of a chain into a list, as `put` puts those that a walk left in five lists. Six parameters: what C asks, the list, and who writes it.
 pub fn lower_into<T, F: Fn(Result<usize, Refusal>, &Steps<'_>, &mut [T]) -> Result<usize, Refusal>>(
     table: &[u32],
     op: u32,
