@@ -118,9 +118,9 @@ pub fn answer(ws: &[u32]) -> Result<TypeLayout, Refusal>
     ensures { result ≡ decode ws.now }
 {
     let ten = ws.as_array().ok_or(Refusal::MISREAD)?;
-    let a = answer_of(ten);
-    if words(a) == *ten {
-        a
+    // worked out again where it holds: kept over the comparison, its parts would be stored
+    if words(answer_of(ten)) == *ten {
+        answer_of(ten)
     } else {
         Err(Refusal::MISREAD)
     }
