@@ -25,7 +25,7 @@ fn words_of(count: usize) -> u32
     2 * count.min(MAX_INDICES) as u32
 }
 
-// ---- the answer's line, or its refusal's: two arms each time, since one function over them would take the line as a closure, in as many lines
+// ---- the answer's line, or its refusal's: two arms each time; with one function over them, which takes the line as a closure, proofs that the check finds have to be written (tried)
 
 // C, with room for that many steps; `count` indices stand in front of the list. Seven parameters: C's three words are fields of a variant of `Ask`, which is no type to hand on.
 pub fn chain_line(

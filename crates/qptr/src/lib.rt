@@ -22,6 +22,7 @@ pub fn qptr_answer_sheet(sheet: &[u8], out: &mut [u8]) -> i64
 pub fn qptr_read_sheet(sheet: &[u8], table: &mut [u32]) -> i64
     ensures { TableRead sheet.now result table.old table.new }
 {
+    // a number of types is a u32, which an i64 holds: `code` would want it as a usize
     match flat::read_table(sheet, table) {
         Ok(n) => i64::from(n),
         Err(e) => recorded::refusal(e),

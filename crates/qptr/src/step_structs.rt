@@ -6,12 +6,12 @@ ghost use Rattle.recorded.specs.Records.{Recorded};
 use recorded::QPtrChainStep;
 
 // The steps of a chain over a table, and how many; or minus the refusal, and the structs as they were.
-pub fn qptr_lower_chain_steps<'a, 's>(
-    table: &'a [u32],
+pub fn qptr_lower_chain_steps(
+    table: &[u32],
     op: u32,
     ptr: u32,
-    indices: &'a [u8],
-    steps: &'s mut [QPtrChainStep],
+    indices: &[u8],
+    steps: &mut [QPtrChainStep],
 ) -> i64
     ensures { Recorded (chain_in (length steps.old) table.now op ptr indices.now) result steps.old steps.new }
 {

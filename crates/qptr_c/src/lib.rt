@@ -1,4 +1,5 @@
 // The symbols of libqptr.a: each C function of qptr under its name, with its clauses, for a host that links the archive.
+// They stand apart, one call each: a crate is a library or a static library, and what they do is proved in the library.
 #![tactic(auto)]
 
 ghost use Rattle.std.specs.Prelude.{length};
@@ -44,12 +45,12 @@ pub extern "C" fn qptr_lower_chain(
 
 // The steps of a chain over a table, and how many; or minus the refusal, and the structs as they were.
 #[unsafe(no_mangle)]
-pub extern "C" fn qptr_lower_chain_steps<'a, 's>(
-    table: &'a [u32],
+pub extern "C" fn qptr_lower_chain_steps(
+    table: &[u32],
     op: u32,
     ptr: u32,
-    indices: &'a [u8],
-    steps: &'s mut [QPtrChainStep],
+    indices: &[u8],
+    steps: &mut [QPtrChainStep],
 ) -> i64
     ensures { Recorded (chain_in (length steps.old) table.now op ptr indices.now) result steps.old steps.new }
 {

@@ -10,7 +10,7 @@ use arith::refusal::Refusal;
 use shapes::tables::Layouts;
 use std::ops::Range;
 
-// ---- the answer's line, or its refusal's: two arms each time, since one function over them would take the line as a closure, in as many lines
+// ---- the answer's line, or its refusal's: two arms each time; with one function over them, which takes the line as a closure, proofs that the check finds have to be written (tried)
 
 // T. No line shows the types of fields, so it is the same for any members.
 #[tactic(auto, unfolding(arith::proofs::Opened::opened), using(printing::proofs::Types::any_types))]
