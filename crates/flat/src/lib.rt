@@ -15,8 +15,8 @@ fn store(n: u32, setting: &[u32], types: &[u32], members: &[u32], given: &[u32],
     ensures { table.new ≡ stored_parts n setting.now types.now members.now given.now table.old }
 {
     let count = [n];
-    let mut offsets = [0u32; 1024];
-    let mut layouts = [0u32; 2560];
+    let mut offsets = [0u32; tally::MAX_MEMBERS];
+    let mut layouts = [0u32; tally::LAYOUT_WORDS];
     let cfg = shapes::words::setting_of(setting);
     let all = Declared {
         cfg,
@@ -41,9 +41,9 @@ pub fn read_table(sheet: &[u8], table: &mut [u32]) -> Result<u32, Refusal>
     ensures { ReadsTable sheet.now result table.old table.new }
 {
     let mut setting = [0u32; 6];
-    let mut types = [0u32; 1536];
-    let mut members = [0u32; 1024];
-    let mut given = [0u32; 1024];
+    let mut types = [0u32; tally::TYPE_WORDS];
+    let mut members = [0u32; tally::MAX_MEMBERS];
+    let mut given = [0u32; tally::MAX_MEMBERS];
     let n = reading::read_sheet(sheet, &mut setting, &mut types, &mut members, &mut given)?;
     if table.len() < 7175 {
         return Err(Refusal::SHORT_LIST);

@@ -64,10 +64,10 @@ fn write_answers<W: Write>(
 fn answer<W: Write>(out: &mut W, sheet: &[u8]) -> io::Result<()>
     ensures { OnOk result (Appends (W.contents out.old) (W.contents out.new) (lay_output sheet.now)) }
 {
-    let mut types = [0u32; 1536];
-    let mut members = [0u32; 1024];
-    let mut offsets = [0u32; 1024];
-    let mut layouts = [0u32; 2560];
+    let mut types = [0u32; tally::TYPE_WORDS];
+    let mut members = [0u32; tally::MAX_MEMBERS];
+    let mut offsets = [0u32; tally::MAX_MEMBERS];
+    let mut layouts = [0u32; tally::LAYOUT_WORDS];
     match prepared::prepare(sheet, &mut types, &mut members, &mut offsets, &mut layouts) {
         Ok(Ready { cfg, n }) => {
             let layouts = Layouts {

@@ -25,7 +25,7 @@ pub fn prepare(
     ensures { Prepares sheet.now result types.old members.old offsets.old layouts.old types.new members.new offsets.new layouts.new }
 {
     let mut setting = [0u32; 6];
-    let mut given = [0u32; 1024];
+    let mut given = [0u32; tally::MAX_MEMBERS];
     let n = reading::read_sheet(sheet, &mut setting, types, members, &mut given)?;
     let cfg = shapes::words::setting_of(&setting);
     let all = Declared {

@@ -88,9 +88,9 @@ fn member_count(types: &[u32], count: usize) -> usize {
 
 fn show(out: &mut impl Write, sheet: &[u8]) -> io::Result<()> {
     let mut setting = [0u32; 6];
-    let mut types = [0u32; 1536];
-    let mut members = [0u32; 1024];
-    let mut given = [0u32; 1024];
+    let mut types = [0u32; tally::TYPE_WORDS];
+    let mut members = [0u32; tally::MAX_MEMBERS];
+    let mut given = [0u32; tally::MAX_MEMBERS];
     let mut indices = [0u32; 510];
     match reading::read_sheet(sheet, &mut setting, &mut types, &mut members, &mut given) {
         Err(e) => write!(out, " e,{}", e.number)?,

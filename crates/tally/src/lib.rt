@@ -18,6 +18,11 @@ pub const MAX_TYPES: u32 = 256;
 
 pub const MAX_MEMBERS: usize = 1_024;
 
+// The words of as many types, six a type, and of their layouts, ten a type.
+pub const TYPE_WORDS: usize = 1_536;
+
+pub const LAYOUT_WORDS: usize = 2_560;
+
 pub const MAX_INDICES: usize = 255;
 
 // What stands above a line: a struct, a decoration of one, or another line. A struct's row has what its D lines come to.

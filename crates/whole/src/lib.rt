@@ -13,10 +13,10 @@ use shapes::tables::{Layouts, Tables};
 pub fn answer_sheet(sheet: &[u8], out: &mut [u8]) -> Result<usize, Refusal>
     ensures { Whole (ok (lay_output sheet.now)) out.old result out.new }
 {
-    let mut types = [0u32; 1536];
-    let mut members = [0u32; 1024];
-    let mut offsets = [0u32; 1024];
-    let mut layouts = [0u32; 2560];
+    let mut types = [0u32; tally::TYPE_WORDS];
+    let mut members = [0u32; tally::MAX_MEMBERS];
+    let mut offsets = [0u32; tally::MAX_MEMBERS];
+    let mut layouts = [0u32; tally::LAYOUT_WORDS];
     match prepared::prepare(sheet, &mut types, &mut members, &mut offsets, &mut layouts) {
         Ok(Ready { cfg, n }) => {
             let layouts = Layouts {
