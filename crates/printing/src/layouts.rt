@@ -66,7 +66,7 @@ fn opaque_line(out: &mut [u8], at: usize, form: &[u8], len: u32) -> usize
     text::byte(out, e, b'\n')
 }
 
-// The line of a layout whose fields are spans of these offsets.
+// The line of a layout whose fields are spans of these offsets: an arm for each of the five forms.
 #[tactic(auto, unfolding(answers::specs::Lines::layout_line))]
 pub fn layout_line(out: &mut [u8], at: usize, l: TypeLayout, offsets: &[u32]) -> usize
     ensures { Printed (layout_text offsets.now l) out.old at result out.new }

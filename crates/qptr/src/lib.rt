@@ -36,7 +36,7 @@ pub fn qptr_lower_chain(table: &[u32], op: u32, ptr: u32, indices: &[u8], steps:
     code(tabled::lower_chain(table, op, ptr, indices, steps))
 }
 
-// ---- the other questions over a table: words, all of them or none, and how many; or minus the refusal, and the list as it was
+// ---- the other questions over a table: words, all of them or none, and how many; or minus the refusal, and the list as it was. Table and list are lent side by side, as C has them
 
 // The layout of a type: form (1 memory, 2 buffer, 3 opaque, 4 and 5 arrays of these), length, size, alignment, legacy alignment, runtime stride, stride of an array, then field offsets.
 pub fn qptr_type_layout(table: &[u32], ty: u32, out: &mut [u32]) -> i64
