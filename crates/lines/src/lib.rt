@@ -316,6 +316,7 @@ pub fn read_line(line: &[u8], above: u32) -> Option<SheetLine>
         return None;
     }
     let r = Rest { line, e, above };
+    // an arm a letter, as in the grammar
     match line[0] {
         b'G' => setting_line(&r),
         b'B' => declared(line, e, SpvType::Bool),

@@ -27,7 +27,7 @@ use Rattle.tally.specs.Counts.{read_in, Small, judged, judged_first}
 use Rattle.tally.proofs.Went.{Matches}
 use Rattle.tally.proofs.Steps.{next_line_lem, line_stops, reads_more, few_declared, some_type, first_went, first_stops}
 use Rattle.reading.specs.declared.Counts.{Counts}
-use Rattle.puts.specs.Puts.{Untouched, Filled, declared_count, Putable, Wrote}
+use Rattle.puts.specs.Puts.{Untouched, Filled, declared_count, Putable, Put, Wrote}
 use Rattle.reading.specs.Reads.{empty_sheet, end_of, finished_by, Passed}
 use Rattle.puts.proofs.Grown.{grown}
 
@@ -73,6 +73,17 @@ pub record Reached (s : List ℕ) (write : Bool) (o : Result Sheet) (ty₀ me₀
   pub left : o ≡ read_lines sheet previous (split 10 (drop at s))
   pub untouched : write ≡ false → Untouched ty₀ me₀ gi₀ ty me gi
   pub filled : write ≡ true → Filled sheet.types ty₀ me₀ gi₀ ty me gi
+
+-- a pass that writes has put a line, and one that only judges has left the lists
+opposite : true ≡ false → ⊥
+opposite h = let z : ◌≡◌ {A = ℕ} 0 1 = cc in omega arith
+
+module _ {write : Bool} {t : Tally} {line : List ℕ} {l : std.Option SheetLine} {ty me gi : List ℕ} where
+  pub written : {ty' me' gi' : List ℕ} → write ≡ true → Put t line l ty me gi ty' me' gi' → Wrote write t line l ty me gi ty' me' gi'
+  written e p = record { yes = λ h. p; no = λ h. absurd (opposite (sym e ∙ h)) }
+
+  pub passed_over : write ≡ false → Wrote write t line l ty me gi ty me gi
+  passed_over e = record { yes = λ h. absurd (opposite (sym h ∙ e)); no = λ h. record { types = refl; members = refl; given = refl } }
 
 -- the counts that a pass tells
 abbrev counts : Tally → Counts

@@ -7,11 +7,9 @@ ghost use Rattle.decimal.specs.Text.{split};
 ghost use Rattle.sheet.specs.Grammar.{Setting};
 ghost use Rattle.sheet.specs.Sheet.{read_lines, read_pieces};
 ghost use Rattle.sheet.specs.Tables.{setting_words};
-ghost use Rattle.puts.specs.Puts.{Putable, Wrote};
 ghost use Rattle.reading.specs.Reads.{finished_by, empty_sheet, Passed, fits_by, ReadsInto};
 
 use arith::refusal::Refusal;
-use lines::SheetLine;
 use shapes::LayoutConfig;
 use tally::Tally;
 
@@ -24,25 +22,6 @@ pub struct Counts {
 }
 
 // ---- the lines from the top
-
-// A pass writes, or only judges: a flag, since two functions would hold the same loop twice, and with empty lists for the first pass in place of the flag
-// reading takes 7 % longer (measured). The lists that are written are lent apart, here and below, for the reason given in puts.
-fn put_if(
-    write: bool,
-    line: &[u8],
-    l: Option<SheetLine>,
-    t: Tally,
-    types: &mut [u32],
-    members: &mut [u32],
-    given: &mut [u32],
-)
-    requires { Putable t l }
-    ensures { Wrote write t line.now l types.old members.old given.old types.new members.new given.new }
-{
-    if write {
-        puts::put(line, l, t, types, members, given);
-    }
-}
 
 // Behind the last LF nothing may stand.
 #[tactic(auto, unfolding(crate::specs::Reads::finished_by))]
@@ -59,7 +38,8 @@ fn finished(rest: usize, t: Tally) -> Result<Counts, Refusal>
     })
 }
 
-// The lines from index `from` on, below a setting.
+// The lines from index `from` on, below a setting. A pass writes, or only judges: a flag, since two functions would hold the same loop twice, and with empty
+// lists for the first pass in place of the flag reading takes 7 % longer (measured). The lists are lent apart, here and below, for the reason given in puts.
 fn rest(
     s: &[u8],
     from: usize,
@@ -78,7 +58,9 @@ fn rest(
     while let Some(line) = fields::line_at(s, at) {
         let l = lines::read_line(line, t.types);
         let next = tally::judge(t, l)?;
-        put_if(write, line, l, t, types, members, given);
+        if write {
+            puts::put(line, l, t, types, members, given);
+        }
         t = next;
         at += line.len() + 1;
     }

@@ -44,7 +44,7 @@ fn op_number(op: ChainOp) -> u32 {
     }
 }
 
-// The fold of a question: its letter and its numbers, and a chain's indices.
+// The fold of a question: its letter and its numbers, and a chain's indices. An arm a question, as each has other numbers.
 fn fold_ask(h: u64, a: Ask, indices: &[u32]) -> u64 {
     match a {
         Ask::T(t) => fold(h, &[u32::from(b'T'), t], 2),

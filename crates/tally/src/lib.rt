@@ -152,6 +152,7 @@ fn decorate(t: Tally, d: MemberDecoration) -> Result<Tally, Refusal>
     })
 }
 
+// How many indices a question has: only a chain has any.
 pub fn count_of(a: Ask) -> usize
     ensures { result ≡ count_of a }
 {
