@@ -95,7 +95,7 @@ fn asked(line: &[u8], e: usize, ask: Ask) -> Option<SheetLine>
 }
 
 // The setting, on line 1. It and three more long lines aren't put into read_line, where every line would pay for their values; and read_line is put
-// into what calls it, so that what a line says isn't copied. Reading takes an eighth less time so (measured).
+// into what calls it, so that what a line says isn't copied. Reading takes a tenth less time so (measured).
 #[inline(never)]
 fn setting_line(r: &Rest<'_>) -> Option<SheetLine>
     ensures { SaysAs r.now.above "G" r.now.line.now r.now.e result }
