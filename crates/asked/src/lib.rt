@@ -1,4 +1,5 @@
 // T, Q, L and X over a table, as words into a lent list: all of them or none.
+// C hands over the table and the list apart, as two lists of words, and so they travel: one is read, the other written.
 #![tactic(auto)]
 
 ghost use Rattle.std.specs.Prelude.{◌≡◌, ◌++◌};
@@ -12,7 +13,7 @@ use shapes::{Components, Handle, MemTypeLayout, TypeLayout};
 
 // ---- words into a lent list
 
-// Two lists, one behind the other.
+// Two lists, one behind the other. A list of lists to give would need a loop over it, where two calls do.
 fn give_both(first: &[u32], second: &[u32], out: &mut [u32]) -> Result<usize, Refusal>
     ensures { Whole (ok (first.now ++ second.now)) out.old result out.new }
 {
@@ -20,14 +21,17 @@ fn give_both(first: &[u32], second: &[u32], out: &mut [u32]) -> Result<usize, Re
         return Err(Refusal::SHORT_LIST);
     }
     spirv::put_words(out, 0, first);
-    spirv::put_words(out, first.len(), second);
+    // one by one: these are few, and a copy of a list of any length takes a call
+    for (i, w) in second.iter().enumerate() {
+        out[first.len() + i] = *w;
+    }
     Ok(first.len() + second.len())
 }
 
 fn give(words: &[u32], out: &mut [u32]) -> Result<usize, Refusal>
     ensures { Whole (ok words.now) out.old result out.new }
 {
-    give_both(words, &words[..0], out)
+    give_both(words, &[], out)
 }
 
 // ---- Q
@@ -73,7 +77,7 @@ pub fn local_variable(table: &[u32], ptr: u32, out: &mut [u32]) -> Result<usize,
 
 // ---- T
 
-// The stride of an array; what is none has 0.
+// The stride of an array; what is none has 0, no `None`, since this is the word that C takes.
 fn stride_in(c: Components) -> u32
     ensures { result ≡ stride_in c }
 {
@@ -86,22 +90,19 @@ fn stride_in(c: Components) -> u32
 fn memory_head(form: u32, len: u32, m: MemTypeLayout) -> [u32; 7]
     ensures { result ≡ memory_head form len m }
 {
-    let mem = m.mem;
-    let base = mem.fixed_base;
-    let c = m.components;
-    let stride = stride_in(c);
+    let base = m.mem.fixed_base;
     [
         form,
         len,
         base.size,
         base.align,
         base.legacy_align,
-        mem.dyn_unit_stride,
-        stride,
+        m.mem.dyn_unit_stride,
+        stride_in(m.components),
     ]
 }
 
-// What stands in front of the field offsets.
+// What stands in front of the field offsets; the form's number is the word that C takes.
 fn head_of(l: TypeLayout) -> [u32; 7]
     ensures { result ≡ head_of l }
 {

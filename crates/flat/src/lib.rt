@@ -2,6 +2,7 @@
 #![tactic(auto)]
 
 ghost use Rattle.std.specs.Prelude.{◌≡◌};
+ghost use Rattle.shapes.specs.Settings.{setting_of};
 ghost use Rattle.flat.specs.Table.{TablesIn};
 ghost use Rattle.flat.specs.Reads.{ReadsTable, stored_parts};
 
@@ -10,28 +11,21 @@ use records::Declared;
 use shapes::rows;
 use shapes::tables::{Layouts, Tables};
 
-// Lays out the types, and stores all parts.
-fn store(n: u32, setting: &[u32], types: &[u32], members: &[u32], given: &[u32], table: &mut [u32])
-    ensures { table.new ≡ stored_parts n setting.now types.now members.now given.now table.old }
+// Lays out the types, and stores all parts; the setting's words and the table are lists of C's, one read and one written.
+fn store(setting: &[u32], all: &Declared<'_>, table: &mut [u32])
+    requires { all.now.cfg ≡ setting_of setting.now }
+    ensures { table.new ≡ stored_parts all.now.n setting.now all.now.types.now all.now.members.now all.now.given.now table.old }
 {
-    let count = [n];
+    let count = [all.n];
     let mut offsets = [0u32; tally::MAX_MEMBERS];
     let mut layouts = [0u32; tally::LAYOUT_WORDS];
-    let cfg = shapes::words::setting_of(setting);
-    let all = Declared {
-        cfg,
-        n,
-        types,
-        members,
-        given,
-    };
     // never short: no sheet has more than 256 types
-    let _ = records::layouts(&all, &mut offsets, &mut layouts);
+    let _ = records::layouts(all, &mut offsets, &mut layouts);
     spirv::put_words(table, 0, &count);
     spirv::put_words(table, 1, setting);
-    spirv::put_words(table, 7, types);
-    spirv::put_words(table, 1543, members);
-    spirv::put_words(table, 2567, given);
+    spirv::put_words(table, 7, all.types);
+    spirv::put_words(table, 1543, all.members);
+    spirv::put_words(table, 2567, all.given);
     spirv::put_words(table, 3591, &offsets);
     spirv::put_words(table, 4615, &layouts);
 }
@@ -48,11 +42,19 @@ pub fn read_table(sheet: &[u8], table: &mut [u32]) -> Result<u32, Refusal>
     if table.len() < 7175 {
         return Err(Refusal::SHORT_LIST);
     }
-    store(n, &setting, &types, &members, &given, table);
+    let all = Declared {
+        cfg: shapes::words::setting_of(&setting),
+        n,
+        types: &types,
+        members: &members,
+        given: &given,
+    };
+    store(&setting, &all, table);
     Ok(n)
 }
 
-// The parts of a table of any content and length: those of a short one are shorter.
+// The parts of a table of any content and length: those of a short one are shorter. Inlined, so that a question finds those alone that it looks into.
+#[inline(always)]
 pub fn tables_in(table: &[u32]) -> Tables<'_>
     ensures { TablesIn table.now result }
 {
