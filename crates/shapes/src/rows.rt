@@ -8,8 +8,9 @@ use crate::{TypeLayout, words};
 use arith::lists;
 use arith::refusal::Refusal;
 
-// Row i of a table; one that the table lacks is refused with 1.
+// Row i of a table; one that the table lacks is refused with 1. Inlined, as all that answers is: callers take a layout apart at once, and it would be stored between.
 #[tactic(auto, using(crate::proofs::RowLaws::row_missing), unfolding(crate::specs::Rows::row_at))]
+#[inline(always)]
 pub fn read_row(table: &[u32], i: u32) -> Result<TypeLayout, Refusal>
     ensures { result ≡ row_at table.now i }
 {
@@ -29,6 +30,7 @@ pub fn write_row(table: &mut [u32], i: u32, a: Result<TypeLayout, Refusal>)
 
 // The answer of type t, of the first n types; a number that is not below n is refused with 1.
 #[tactic(auto, unfolding(crate::specs::Rows::answer_at))]
+#[inline(always)]
 pub fn answer_at(layouts: &[u32], n: u32, t: u32) -> Result<TypeLayout, Refusal>
     ensures { result ≡ answer_at layouts.now n t }
 {

@@ -16,6 +16,7 @@ pub struct Layouts<'a> {
 
 impl Layouts<'_> {
     // The answer of type t.
+    #[inline(always)]
     pub fn answer_at(&self, t: u32) -> Result<TypeLayout, Refusal>
         ensures { result ≡ answer_at self.now.rows.now self.now.count t }
     {

@@ -114,6 +114,7 @@ fn answer_of(ws: &[u32; 10]) -> Result<TypeLayout, Refusal>
 
 // The answer that words hold is the one whose words they are; words that are none's are refused with 1.
 #[tactic(auto, using(crate::proofs::ReadsBack::not_ten, spirv::proofs::Words::same_pointwise), unfolding(crate::specs::Words::decode))]
+#[inline(always)]
 pub fn answer(ws: &[u32]) -> Result<TypeLayout, Refusal>
     ensures { result ≡ decode ws.now }
 {
