@@ -51,7 +51,7 @@ pub fn next_question(
     ensures { Steps sheet.now at result indices.old indices.new }
 {
     let mut from = at;
-    // by place, which is told: and the library splits a str, while a sheet is bytes
+    // by place, which is handed on with the question
     while let Some(line) = fields::line_at(sheet, from) {
         from += line.len() + 1;
         if let Some((ask, place)) = question_in(line) {

@@ -54,7 +54,7 @@ fn rest(
 {
     let mut t = tally::start(g);
     let mut at = from;
-    // by place: the library splits a str, and a sheet is bytes
+    // by place: what stands behind the last LF is judged too, and pieces of a split don't tell it from a line
     while let Some(line) = fields::line_at(s, at) {
         let l = lines::read_line(line, t.types);
         let next = tally::judge(t, l)?;
