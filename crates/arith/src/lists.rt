@@ -7,7 +7,7 @@ ghost use Rattle.arith.specs.Rows.{IsRow};
 pub fn put<T: Copy>(list: &mut [T], at: usize, items: &[T])
     ensures { list.new ≡ sets list.old at items.now }
 {
-    // a copy of all items first: where their number is known, it is a few stores
+    // a copy of all items apart: where their number is known it is a few stores, and a chain is lowered sooner (measured)
     if items.len() <= list.len() && at <= list.len() - items.len() {
         list[at..at + items.len()].copy_from_slice(items);
     } else if at < list.len() {
@@ -20,7 +20,17 @@ pub fn put<T: Copy>(list: &mut [T], at: usize, items: &[T])
 pub fn row<T, const N: usize>(table: &[T], i: u32) -> Option<&[T; N]>
     ensures { MatchOption result (length table.now < N * i + N) (λ r. IsRow N table.now i r.now) }
 {
-    // no `From`: the check proves that a word fits
+    // here and below no `From`: the check proves that a word fits
     let at = N.checked_mul(i as usize)?;
     table.get(at..)?.first_chunk()
+}
+
+// Row i of such a table, written; what lies past the table's end is left out.
+#[tactic(auto, using(crate::proofs::Stores::sets_past))]
+pub fn put_row<T: Copy, const N: usize>(table: &mut [T], i: u32, row: &[T; N])
+    ensures { table.new ≡ sets table.old (N * i) row.now }
+{
+    if let Some(at) = N.checked_mul(i as usize) {
+        put(table, at, row);
+    }
 }

@@ -18,14 +18,12 @@ pub fn read_row(table: &[u32], i: u32) -> Result<TypeLayout, Refusal>
     words::answer(row)
 }
 
-// Here and below `as usize` widens: there is no `From` for it, and the check proves that a word fits.
-
 // Row i of a table, written; what lies past the table's end is left out.
 pub fn write_row(table: &mut [u32], i: u32, a: Result<TypeLayout, Refusal>)
     ensures { table.new ≡ sets table.old (10 * i) (encode a) }
 {
     let ws = words::words(a);
-    spirv::put_words(table, 10 * i as usize, &ws);
+    lists::put_row(table, i, &ws);
 }
 
 // The answer of type t, of the first n types; a number that is not below n is refused with 1.
@@ -41,7 +39,8 @@ pub fn answer_at(layouts: &[u32], n: u32, t: u32) -> Result<TypeLayout, Refusal>
     }
 }
 
-// The part of a list from start on, at most count long: the fields of a span that runs past the list's end are those that are there.
+// The part of a list from start on, at most count long: the fields of a span that runs past the list's end are those that are there. `as usize` widens,
+// and has no `From`.
 pub fn span(list: &[u32], start: u32, count: u32) -> &[u32]
     ensures { result.now ≡ take count (drop start list.now) }
 {
