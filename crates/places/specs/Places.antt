@@ -38,10 +38,6 @@ layout_at Opaques = layout.HandleArray handle.Opaque 0
 
 -- ---- rows
 
--- words of no number, as those of memory and of one buffer are, made of parts of this kind
-abbrev pub Parted : (ws : List ℕ) (kind : ℕ) → Type 0
-Parted ws kind = (get_or ws 1 0 ≡ 0) × (get_or ws 2 0 ≡ kind)
-
 -- the memory whose numbers stand in a row, made of these parts
 abbrev pub memory_with : List ℕ → Components → MemTypeLayout
 memory_with ws parts = record {
