@@ -40,7 +40,7 @@ fn start_place(tables: &Tables<'_>, op: ChainOp, t: u32) -> Result<Place, Refusa
 fn start_at(tables: &Tables<'_>, op: ChainOp, ptr: u32) -> Result<Place, Refusal>
     ensures { Starts result (λ f. start_by tables.now.cfg (pointee_at tables.now.types.now tables.now.layouts.count) (λ u. answer_by f (answer_at tables.now.layouts.rows.now tables.now.layouts.count u)) op ptr) }
 {
-    let t = pointers::pointee_at(tables.types, tables.layouts.count, ptr)?;
+    let t = pointers::pointee_at(tables, ptr)?;
     start_place(tables, op, t)
 }
 

@@ -26,12 +26,13 @@ fn pointee_of(ty: SpvType) -> Result<u32, Refusal>
     ensures { result ≡ in_code (pointee_of ty) }
 {
     match ty {
-        SpvType::Pointer { class: _, pointee } => Ok(pointee),
+        SpvType::Pointer { pointee, .. } => Ok(pointee),
         _ => Err(Refusal::NO_POINTER),
     }
 }
 
-// The pointee of the type whose row these words are.
+// The pointee of the type whose row these words are, in two ways: any row can be decoded whole, as here, and this tells a row that is misread from a
+// type that is no pointer; a pointer's own row is known by its words, below, as to decode each row took longer (docs/CHANGES.md, 6 of 8).
 fn by_row(ws: &[u32]) -> Result<u32, Refusal>
     ensures { result ≡ in_code (pointee_of_row (decode_row ws.now)) }
 {
@@ -39,7 +40,7 @@ fn by_row(ws: &[u32]) -> Result<u32, Refusal>
     pointee_of(r.ty)
 }
 
-// The same; a pointer's row is known by its words.
+// The same, where a pointer's row isn't decoded.
 #[tactic(auto, using(crate::proofs::PointerRows::of_pointer))]
 fn pointee_in(ws: &[u32; 6]) -> Result<u32, Refusal>
     ensures { result ≡ in_code (pointee_of_row (decode_row ws.now)) }
@@ -50,15 +51,15 @@ fn pointee_in(ws: &[u32; 6]) -> Result<u32, Refusal>
     }
 }
 
-// The pointee of type ptr, of the first n types; 18 on a type that is no pointer.
+// The pointee of type ptr; refused with 18 where that type is no pointer, and with 1 where there is no such type.
 #[tactic(auto, using(crate::proofs::PointerRows::row_missing), unfolding(crate::specs::OverTables::pointee_at, spirv::specs::Rows::row_at))]
-pub fn pointee_at(types: &[u32], n: u32, ptr: u32) -> Result<u32, Refusal>
-    ensures { result ≡ in_code (pointee_at types.now n ptr) }
+pub fn pointee_at(tables: &Tables<'_>, ptr: u32) -> Result<u32, Refusal>
+    ensures { result ≡ in_code (pointee_at tables.now.types.now tables.now.layouts.count ptr) }
 {
-    if n <= ptr {
+    if tables.layouts.count <= ptr {
         return Err(Refusal::MISREAD);
     }
-    pointee_in(lists::row(types, ptr).ok_or(Refusal::MISREAD)?)
+    pointee_in(lists::row(tables.types, ptr).ok_or(Refusal::MISREAD)?)
 }
 
 // ---- array length (OpArrayLength)
@@ -111,8 +112,8 @@ fn runtime_stride(c: Components) -> Result<u32, Refusal>
     match c {
         Components::Elements {
             stride,
-            elem: _,
             fixed_len: 0,
+            ..
         } => Ok(stride),
         _ => Err(Refusal::NO_RUNTIME_ARRAY),
     }
@@ -145,13 +146,13 @@ fn length_in(layouts: &Layouts<'_>, m: MemTypeLayout, member: u32) -> Result<Arr
     })
 }
 
-// Of a layout's member; 25 where it is no buffer.
+// Of a layout's member; refused with 25 where the layout is of no buffer.
 #[tactic(auto, unfolding(arith::proofs::Opened::opened, lower::specs::Other::buffer_of))]
 fn length_of(layouts: &Layouts<'_>, l: TypeLayout, member: u32) -> Result<ArrayLength, Refusal>
     ensures { result ≡ as_length (length_of (answers_in layouts.now.rows.now layouts.now.count layouts.now.offsets.now layouts.now.members.now) (layout_by (spans_of layouts.now.offsets.now layouts.now.members.now) l) member) }
 {
     match l {
-        TypeLayout::Handle(Handle::Buffer(m)) => { length_in(layouts, m, member) }
+        TypeLayout::Handle(Handle::Buffer(m)) => length_in(layouts, m, member),
         _ => Err(Refusal::NO_BUFFER),
     }
 }
@@ -161,7 +162,7 @@ pub fn array_length(tables: &Tables<'_>, ptr: u32, member: u32) -> Result<ArrayL
     ensures { result ≡ as_length (length_over tables.now.layouts.count tables.now.types.now tables.now.layouts.rows.now tables.now.layouts.offsets.now tables.now.layouts.members.now ptr member) }
 {
     let layouts = &tables.layouts;
-    let block = pointee_at(tables.types, layouts.count, ptr)?;
+    let block = pointee_at(tables, ptr)?;
     let l = layouts.answer_at(block)?;
     length_of(layouts, l, member)
 }
@@ -183,7 +184,7 @@ fn fixed_memory(l: TypeLayout) -> Option<MemLayout>
 pub fn local_variable(tables: &Tables<'_>, ptr: u32) -> Result<Option<MemLayout>, Refusal>
     ensures { (f : Reading) → result ≡ as_variable (variable_by (pointee_at tables.now.types.now tables.now.layouts.count) (λ t. answer_by f (answer_at tables.now.layouts.rows.now tables.now.layouts.count t)) ptr) }
 {
-    let t = pointee_at(tables.types, tables.layouts.count, ptr)?;
+    let t = pointee_at(tables, ptr)?;
     let l = tables.layouts.answer_at(t)?;
     Ok(fixed_memory(l))
 }
