@@ -11,23 +11,35 @@ use records::Declared;
 use shapes::rows;
 use shapes::tables::{Layouts, Tables};
 
-// Lays out the types, and stores all parts; the setting's words and the table are lists of C's, one read and one written.
+// Where the parts of a table begin, as specs/Table.antt and the header for C have them: the number of types, the setting, the types, the members, their
+// given offsets and those computed, the rows of layouts. Each part ends where the next begins, the last one with the table. They are u32, as a span is
+// named by these; where a list is written they are widened, for which there is no From.
+const COUNT_AT: usize = 0;
+const SETTING_AT: u32 = 1;
+const TYPES_AT: u32 = 7;
+const MEMBERS_AT: u32 = 1_543;
+const GIVEN_AT: u32 = 2_567;
+const OFFSETS_AT: u32 = 3_591;
+const LAYOUTS_AT: u32 = 4_615;
+const TABLE_WORDS: u32 = 7_175;
+
+// Lays out the types, and stores all parts. Two lists: one is read, the other written. The setting's words, which `all` has as a struct, are those that
+// the sheet was read into: to make them from the struct again would be a writer beside the reader's.
 fn store(setting: &[u32], all: &Declared<'_>, table: &mut [u32])
     requires { all.now.cfg ≡ setting_of setting.now }
     ensures { table.new ≡ stored_parts all.now.n setting.now all.now.types.now all.now.members.now all.now.given.now table.old }
 {
-    let count = [all.n];
     let mut offsets = [0u32; tally::MAX_MEMBERS];
     let mut layouts = [0u32; tally::LAYOUT_WORDS];
     // never short: no sheet has more than 256 types
     let _ = records::layouts(all, &mut offsets, &mut layouts);
-    spirv::put_words(table, 0, &count);
-    spirv::put_words(table, 1, setting);
-    spirv::put_words(table, 7, all.types);
-    spirv::put_words(table, 1543, all.members);
-    spirv::put_words(table, 2567, all.given);
-    spirv::put_words(table, 3591, &offsets);
-    spirv::put_words(table, 4615, &layouts);
+    spirv::put_word(table, COUNT_AT, all.n);
+    spirv::put_words(table, SETTING_AT as usize, setting);
+    spirv::put_words(table, TYPES_AT as usize, all.types);
+    spirv::put_words(table, MEMBERS_AT as usize, all.members);
+    spirv::put_words(table, GIVEN_AT as usize, all.given);
+    spirv::put_words(table, OFFSETS_AT as usize, &offsets);
+    spirv::put_words(table, LAYOUTS_AT as usize, &layouts);
 }
 
 // Reads a sheet into a table. Where it is refused, or the list is too short, the list is as it was.
@@ -38,8 +50,9 @@ pub fn read_table(sheet: &[u8], table: &mut [u32]) -> Result<u32, Refusal>
     let mut types = [0u32; tally::TYPE_WORDS];
     let mut members = [0u32; tally::MAX_MEMBERS];
     let mut given = [0u32; tally::MAX_MEMBERS];
+    // four lists, each lent by itself, since all are written: of a struct of such lists nothing is known after the call
     let n = reading::read_sheet(sheet, &mut setting, &mut types, &mut members, &mut given)?;
-    if table.len() < 7175 {
+    if table.len() < TABLE_WORDS as usize {
         return Err(Refusal::SHORT_LIST);
     }
     let all = Declared {
@@ -59,14 +72,14 @@ pub fn tables_in(table: &[u32]) -> Tables<'_>
     ensures { TablesIn table.now result }
 {
     let layouts = Layouts {
-        rows: rows::span(table, 4615, 2560),
-        count: spirv::word_at(table, 0),
-        offsets: rows::span(table, 3591, 1024),
-        members: rows::span(table, 1543, 1024),
+        rows: rows::span(table, LAYOUTS_AT, TABLE_WORDS - LAYOUTS_AT),
+        count: spirv::word_at(table, COUNT_AT),
+        offsets: rows::span(table, OFFSETS_AT, LAYOUTS_AT - OFFSETS_AT),
+        members: rows::span(table, MEMBERS_AT, GIVEN_AT - MEMBERS_AT),
     };
     Tables {
-        cfg: shapes::words::setting_of(rows::span(table, 1, 6)),
-        types: rows::span(table, 7, 1536),
+        cfg: shapes::words::setting_of(rows::span(table, SETTING_AT, TYPES_AT - SETTING_AT)),
+        types: rows::span(table, TYPES_AT, MEMBERS_AT - TYPES_AT),
         layouts,
     }
 }

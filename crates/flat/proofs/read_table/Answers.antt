@@ -3,8 +3,8 @@ use Rattle.std.proofs.Common.{rules, ◌≡◌, Err}
 use Rattle.flat.proofs.Laws.{read_refused, read_short, read_whole}
 use Rattle.flat.proofs.read_table.Goals as goal
 
-pub returns-then-table-lt7175 : goal.returns-then-table-lt7175
-returns-then-table-lt7175 c = read_short c.read_sheet.ensures _ _ c.in_ok-n.was c.if-table-lt7175.true
+pub returns-then-table : goal.returns-then-table
+returns-then-table c = read_short c.read_sheet.ensures _ _ c.in_ok-n.was c.if-table.true
 
 pub returns-in_err-n : goal.returns-in_err-n
 returns-in_err-n c =
@@ -12,4 +12,4 @@ returns-in_err-n c =
     rw e (read_refused c.read_sheet.ensures _ _ c.in_err-n.was)
 
 pub returns : goal.returns
-returns c = read_whole c.read_sheet.ensures _ _ c.in_ok-n.was c.if-table-lt7175.false c.store.ensures
+returns c = read_whole c.read_sheet.ensures _ _ c.in_ok-n.was c.if-table.false c.store.ensures
