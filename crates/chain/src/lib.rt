@@ -38,6 +38,7 @@ fn go_on(
     let mut u = l;
     let mut q = p;
     for (k, index) in chain[from..].chunks_exact(2).enumerate() {
+        // the place is told where a step is given
         let at = from + 2 * k;
         let i = spirv::index_of(index[0], index[1]);
         match moves::next_move(layouts, u, i, q)? {
@@ -66,8 +67,8 @@ fn go_on(
     Ok(Run::Ended(q))
 }
 
-// The two parts take all that a walk has: the tables, the chain and a place in it, what waits, and the five lists, which are lent apart, as document
-// 01 names them; of lists written through a struct of `&mut` nothing is known afterwards.
+// The two parts take all that a walk has: the tables, the chain and a place in it, which only grows and stays within it, what waits, and the five lists of
+// document 01's covered form, lent apart, as of lists written through a struct of `&mut` nothing is known afterwards.
 
 // The struct part: fields, and elements at constant places, which are as fields are. It hands an index that gives a step to the array part.
 #[cycle(array_part_struct_part)]

@@ -16,19 +16,6 @@ use std::ops::Range;
 
 // ---- on elements
 
-// A stride 0, which no layout has, gives 0.
-fn index_of(start: u32, stride: u32) -> u32
-    ensures { result ≡ start / stride }
-{
-    start.checked_div(stride).unwrap_or(0)
-}
-
-fn in_length(index: u32, len: u32) -> bool
-    ensures { result ≡ (eqb len 0 || leb index len) }
-{
-    len == 0 || index <= len
-}
-
 // At index = length the element has size 0; a length 0 is none.
 #[tactic(auto, unfolding(layout::specs::Lookup::size_at_index))]
 fn size_at_index(index: u32, len: u32, size: u32) -> u32
@@ -42,11 +29,12 @@ fn size_at_index(index: u32, len: u32, size: u32) -> u32
 fn element_containing(stride: u32, len: u32, size: u32, range: &Range<u32>) -> Option<u32>
     ensures { result ≡ held_element (element_holding stride len size range.now.start range.now.end) }
 {
-    let index = index_of(range.start, stride);
+    // a stride 0, which no layout has, gives 0
+    let index = range.start.checked_div(stride).unwrap_or(0);
     let last = index
         .checked_mul(stride)?
         .checked_add(size_at_index(index, len, size))?;
-    (in_length(index, len) && range.end <= last).then_some(index)
+    ((len == 0 || index <= len) && range.end <= last).then_some(index)
 }
 
 // ---- on fields
@@ -97,7 +85,7 @@ fn elements_containing(
     }
 }
 
-// The fields whose offsets and types are these.
+// The fields whose offsets and types are these, a span of two lists of the tables. They are counted by hand: the list may end before all are found.
 #[tactic(auto, unfolding(crate::specs::Found::counted))]
 fn fields_containing(
     layouts: &Layouts<'_>,

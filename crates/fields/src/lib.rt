@@ -69,7 +69,7 @@ impl ReadField for u32 {
     }
 }
 
-// A number or `s`.
+// A number or `s`. This and the next are of one shape: one function for both would take the letter and two constructors, and its law a map for each.
 impl ReadField for Length {
     ghost read = { read_length };
 
@@ -95,7 +95,7 @@ impl ReadField for Stride {
     }
 }
 
-// 65, 66, 67 or 70.
+// 65, 66, 67 or 70, as a field has them; `tabled::op_of` reads them as C hands them over.
 impl ReadField for ChainOp {
     ghost read = { read_op };
 
@@ -146,7 +146,7 @@ fn decoration(number: &[u8], value: &[u8]) -> Option<Decoration>
 
 // ---- the next field of a line
 
-// Where the byte c first stands. A function, since two need it: what is proved of its closure is so said once.
+// Where the byte c first stands. A function, since two need it: what its closure does is proved once.
 fn place(s: &[u8], c: u8) -> Option<usize>
     ensures { result ≡ position (λ b. b == c) s.now }
 {

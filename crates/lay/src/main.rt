@@ -53,6 +53,7 @@ fn write_answers<W: Write>(
         if !filled.more {
             return Ok(());
         }
+        // never, as the comment above says: with it the loop is seen to end
         if filled.next <= from {
             return Err(io::Error::new(ErrorKind::InvalidData, "a line is longer than the buffer"));
         }
@@ -60,7 +61,7 @@ fn write_answers<W: Write>(
     }
 }
 
-// The answer of a sheet.
+// The answer of a sheet. Memory is fixed: four lists hold any sheet's tables, as in `whole`.
 fn answer<W: Write>(out: &mut W, sheet: &[u8]) -> io::Result<()>
     ensures { OnOk result (Appends (W.contents out.old) (W.contents out.new) (lay_output sheet.now)) }
 {

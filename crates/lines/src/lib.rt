@@ -347,10 +347,7 @@ pub fn read_line(line: &[u8], above: u32) -> Option<SheetLine>
 pub fn put_at(list: &mut [u32], first: usize, n: usize, w: u32)
     ensures { list.new ≡ set list.old (first + n) w }
 {
-    let Some(i) = first.checked_add(n) else {
-        return;
-    };
-    spirv::put_word(list, i, w);
+    spirv::put_word(list, first.saturating_add(n), w);
 }
 
 // The members that a line names behind index `at`, from `first` on. A loop, for the reason above `count`.

@@ -44,7 +44,7 @@ fn start_at(tables: &Tables<'_>, op: ChainOp, ptr: u32) -> Result<Place, Refusal
     start_place(tables, op, t)
 }
 
-// The steps of a chain into the five lists, or the refusal and the lists as they were. They are lent apart, as document 01 names them.
+// The steps of a chain into the five lists, or the refusal and the lists as they were. They are document 01's covered form, lent apart.
 pub fn lower_access_chain(
     tables: &Tables<'_>,
     op: ChainOp,

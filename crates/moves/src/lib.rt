@@ -30,7 +30,7 @@ pub enum Way {
     Enter(Components),
 }
 
-// Where an index leads: on to a place, this offset waiting; on to it behind a step; into a buffer, the index still to be used.
+// What a way comes to once its part's place is known: on to a place, this offset waiting; on to it behind a step; into a buffer, the index still to be used.
 #[derive(Clone, Copy, Debug, PartialEq, Eq, Hash)]
 pub enum Move {
     Onward(Place, Option<i32>),
@@ -162,7 +162,8 @@ pub fn next_move(layouts: &Layouts<'_>, l: Place, i: Index, p: Option<i32>) -> R
 
 // ---- steps in the lists
 
-// The five lists are lent apart, as document 01 names them: of lists written through a struct of `&mut` nothing is known afterwards.
+// The five lists are document 01's covered form, parallel number slices; lent apart, as of lists written through a struct of `&mut` nothing is known afterwards.
+// No chain has 4,096 steps: with that n + 1 fits.
 
 // How many steps there are once what waits is one.
 pub fn after(p: Option<i32>, n: usize) -> usize
@@ -175,7 +176,7 @@ pub fn after(p: Option<i32>, n: usize) -> usize
     }
 }
 
-// What waits and a step, stored before the steps of a walk, unless it is refused.
+// What waits and a step, stored before the steps of a walk, unless it is refused: the walk comes back first, and its answer goes on.
 pub fn prefix(
     r: Result<usize, Refusal>,
     p: Option<i32>,

@@ -13,7 +13,7 @@ use arith::refusal::Refusal;
 use shapes::LayoutConfig;
 use tally::Tally;
 
-// What a pass comes to: the setting, and how many types and members there are.
+// What a pass comes to: the setting, and how many types and members there are. It is a tally without the place, which ends with the last line.
 #[derive(Clone, Copy, Debug, PartialEq, Eq, Hash)]
 pub struct Counts {
     pub setting: LayoutConfig,
@@ -93,6 +93,7 @@ fn pass(
 
 // ---- the whole
 
+// The words of which `shapes::words::setting_of` makes the setting again: the sheet's lists are words, so that a table of C's can hold them.
 fn put_setting(list: &mut [u32], g: LayoutConfig)
     ensures { list.new ≡ sets list.old 0 (setting_words g) }
 {

@@ -23,7 +23,7 @@ pub struct Declared<'a> {
     pub given: &'a [u32],
 }
 
-// Which rule a type follows: five kinds of arguments, an arm of `rule_of` for each kind of type.
+// Which rule a type follows: eleven kinds of types have five rules, so that the laws of a layout speak once a rule.
 #[derive(Clone, Copy, Debug, PartialEq, Eq, Hash)]
 pub enum Rule {
     OfSetting { size: u32, align: u32 },
@@ -132,6 +132,7 @@ pub fn layouts(all: &Declared<'_>, offsets: &mut [u32], layouts: &mut [u32]) -> 
     if layouts.len() < 10 * all.n as usize {
         return Err(Refusal::SHORT_LIST);
     }
+    // by number: each row is made of the rows below it, in the list that is written
     for i in 0..all.n {
         add_record(all, i, offsets, layouts);
     }

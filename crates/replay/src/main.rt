@@ -43,7 +43,7 @@ struct Record {
 
 // ---- bytes
 
-// The bytes from a place on, at most so many: those that are there.
+// The bytes from a place on, at most so many: those that are there. As `shapes::rows::span`, whose list and numbers are words.
 fn part(s: &[u8], at: usize, most: usize) -> &[u8]
     ensures { result.now ≡ take most (drop at s.now) }
 {
@@ -175,6 +175,7 @@ fn replay(out: &mut impl Write, bundle: &[u8]) -> io::Result<Count> {
         let sheet = between(bundle, record.sheet, record.answers);
         let stored = between(bundle, record.answers, record.next);
         total += replay_sheet(out, name, sheet, stored)?;
+        // never, but a loop that goes by place must be seen to end
         if record.next <= at {
             return Ok(total);
         }

@@ -77,7 +77,7 @@ pub struct ArrayParams {
     pub legacy: Legacy,
 }
 
-// What tells each kind of array apart, a function a kind: the literals would stand at each caller in their place.
+// What tells each kind of array apart, a function a kind, as document 01's rules have their words: a literal at a caller would be proved there.
 pub fn vector_params(elem: u32, len: u32) -> ArrayParams
     ensures { result ≡ of_vector elem len }
 {

@@ -5,7 +5,8 @@ ghost use Rattle.shapes.specs.Rows.{answer_at};
 use crate::{LayoutConfig, TypeLayout, rows};
 use arith::refusal::Refusal;
 
-// The layouts of so many types, a row of ten words each, and the two lists of which a struct's fields are spans: their offsets and their types.
+// The layouts of so many types, a row of ten words each, and the two lists of which a struct's fields are spans: their offsets and their types. The count stands
+// beside the rows since the lists that C lends are of a fixed size.
 #[derive(Clone, Copy)]
 pub struct Layouts<'a> {
     pub rows: &'a [u32],

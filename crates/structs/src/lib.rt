@@ -24,7 +24,8 @@ pub struct Placed {
     pub extent: MaybeDynMemLayout,
 }
 
-// Members of structs, their types and given offsets, beside the setting and the layouts of the first n types.
+// Members of structs, of one or of all, their types and given offsets, which are as many or none, beside the setting and the layouts of the first n types, in a
+// list of a fixed size. `records::Declared` has the types of a sheet in their place.
 #[derive(Clone, Copy)]
 pub struct Members<'a> {
     pub cfg: LayoutConfig,
@@ -207,7 +208,7 @@ impl Members<'_> {
         }
     }
 
-    // Their offsets, written from `at` on, up to the first member that is refused.
+    // Their offsets, written from `at` on, up to the first member that is refused. The walk of `extent` again, since a refusal leaves the list as it was.
     #[tactic(auto, using(crate::proofs::Walk::offsets_next, crate::proofs::Walk::offsets_stop, crate::proofs::Walk::offsets_end))]
     fn write_offsets(&self, offsets: &mut [u32], at: usize)
         requires { at + length self.now.types.now ≤ length offsets.old }
@@ -218,6 +219,7 @@ impl Members<'_> {
             let Ok(member) = self.step_at(i, *t, x) else {
                 return;
             };
+            // by index: of what is written through iter_mut a proof knows nothing
             offsets[at + i] = member.offset;
             x = member.extent;
         }
@@ -243,7 +245,7 @@ fn within(r: DeclRow, members: usize, given: usize, offsets: usize) -> bool
     end <= members && end <= given && end <= offsets
 }
 
-// With Block it is a buffer handle. The flag is that of `SpvType::Struct`; two functions would say the rest twice.
+// With Block it is a buffer handle. The flag is that of `SpvType::Struct`, known where the rule is picked; two functions would say the rest twice.
 fn block_or(block: bool, r: DeclRow, mem: MaybeDynMemLayout) -> TypeLayout
     ensures { result ≡ block_or block (fields_at r mem) }
 {

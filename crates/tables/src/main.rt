@@ -27,14 +27,17 @@ fn fold_word(h: u64, w: u64) -> u64 {
     (h % FOLD * 31 + w % FOLD) % FOLD
 }
 
-// The fold of the first words of a list.
-fn fold(start: u64, list: &[u32], count: usize) -> u64 {
-    list.iter()
-        .take(count)
-        .fold(start, |h, w| fold_word(h, u64::from(*w)))
+// The fold of a list.
+fn fold(start: u64, list: &[u32]) -> u64 {
+    list.iter().fold(start, |h, w| fold_word(h, u64::from(*w)))
 }
 
-// Here alone an op is needed as a number.
+// The first items of a list, or all where it has fewer.
+fn first(list: &[u32], count: usize) -> &[u32] {
+    list.get(..count).unwrap_or(list)
+}
+
+// The number of an op: fields and tabled read it, and here alone it is written.
 fn op_number(op: ChainOp) -> u32 {
     match op {
         ChainOp::AccessChain => 65,
@@ -47,20 +50,24 @@ fn op_number(op: ChainOp) -> u32 {
 // The fold of a question: its letter and its numbers, and a chain's indices. An arm a question, as each has other numbers.
 fn fold_ask(h: u64, a: Ask, indices: &[u32]) -> u64 {
     match a {
-        Ask::T(t) => fold(h, &[u32::from(b'T'), t], 2),
-        Ask::E(t, u) => fold(h, &[u32::from(b'E'), t, u], 3),
-        Ask::Q(t, from, to) => fold(h, &[u32::from(b'Q'), t, from, to], 4),
+        Ask::T(t) => fold(h, &[u32::from(b'T'), t]),
+        Ask::E(t, u) => fold(h, &[u32::from(b'E'), t, u]),
+        Ask::Q(t, from, to) => fold(h, &[u32::from(b'Q'), t, from, to]),
         Ask::C { op, ptr, count } => {
-            let g = fold(h, &[u32::from(b'C'), op_number(op), ptr], 3);
-            fold(fold_word(g, count as u64), indices, count.saturating_mul(2))
+            let g = fold(h, &[u32::from(b'C'), op_number(op), ptr]);
+            fold(
+                fold_word(g, count as u64),
+                first(indices, count.saturating_mul(2)),
+            )
         }
-        Ask::L(t, field) => fold(h, &[u32::from(b'L'), t, field], 3),
-        Ask::X(t) => fold(h, &[u32::from(b'X'), t], 2),
+        Ask::L(t, field) => fold(h, &[u32::from(b'L'), t, field]),
+        Ask::X(t) => fold(h, &[u32::from(b'X'), t]),
     }
 }
 
 // 24 where a line's indices don't fit the list.
 fn fold_questions(sheet: &[u8], indices: &mut [u32]) -> Result<Asked, Refusal> {
+    // by place, since a question tells where the next one begins
     let mut at = 0;
     let mut asked = Asked { count: 0, fold: 7 };
     while let Some(Question { ask, next }) = asking::next_question(sheet, at, indices)? {
@@ -86,6 +93,7 @@ fn member_count(types: &[u32], count: usize) -> usize {
         .fold(0, |n: usize, row| n.saturating_add(row_members(row)))
 }
 
+// Memory is fixed: lists of our own hold what a sheet may have, of 255 indices two words each.
 fn show(out: &mut impl Write, sheet: &[u8]) -> io::Result<()> {
     let mut setting = [0u32; 6];
     let mut types = [0u32; tally::TYPE_WORDS];
@@ -98,15 +106,21 @@ fn show(out: &mut impl Write, sheet: &[u8]) -> io::Result<()> {
             let n = ts as usize;
             let ms = member_count(&types, n);
             let asked = fold_questions(sheet, &mut indices).unwrap_or_default();
-            let rows = fold(fold(7, &setting, 6), &types, n.saturating_mul(6));
+            let rows = fold(fold(7, &setting), first(&types, n.saturating_mul(6)));
             write!(out, " {ts} {ms} {} {rows}", asked.count)?;
-            write!(out, " {} {}", fold(7, &members, ms), fold(7, &given, ms))?;
+            write!(
+                out,
+                " {} {}",
+                fold(7, first(&members, ms)),
+                fold(7, first(&given, ms))
+            )?;
             write!(out, " {}", asked.fold)?;
         }
     }
     out.write_all(b"\n")
 }
 
+// As `replay` goes through its arguments; what each does with a file, and at the end, is its own.
 fn main(rt: HostRuntime) -> io::Result<()> {
     let mut out = io::writer(&rt);
     let mut name = [0u8; intake::LONGEST_NAME];

@@ -44,7 +44,7 @@ pub struct Tally {
 
 // ---- decorations
 
-// The order of an AttrSet: by member, decoration, value. A function: with `<` in decorate's guard, neither of its cases is proved without naming this law.
+// The order of an AttrSet: by member, decoration, value. A function: with `<` in decorate's guard the check closes neither of its two cases (tried).
 fn comes_before(a: MemberDecoration, b: MemberDecoration) -> bool
     ensures { result ≡ before a b }
 {
@@ -84,6 +84,7 @@ fn refused(row: DeclRow, e: Refusal) -> DeclRow
 
 // ---- lines
 
+// Said once for two crates.
 pub fn is_struct(ty: SpvType) -> bool
     ensures { result ≡ is_struct ty }
 {
@@ -175,7 +176,7 @@ fn ask(t: Tally, count: usize) -> Result<Tally, Refusal>
     })
 }
 
-// A line below others, where it keeps its form.
+// A line below others, where it keeps its form. It takes what reading the line gave: that a line says nothing is one refusal among the others here.
 #[tactic(auto, unfolding(crate::specs::Counts::judged))]
 pub fn judge(t: Tally, line: Option<SheetLine>) -> Result<Tally, Refusal>
     requires { Small t }

@@ -8,7 +8,7 @@ ghost use Rattle.text.specs.Printed.{Printed};
 
 use arith::lists;
 
-// One byte.
+// One byte, as `spirv::put_word` a word; the next place is the answer here.
 pub fn byte(out: &mut [u8], at: usize, b: u8) -> usize
     ensures { Printed (b ∷ []) out.old at result out.new }
 {

@@ -9,7 +9,8 @@ use arith::refusal::Refusal;
 use prepared::Ready;
 use shapes::tables::{Layouts, Tables};
 
-// All of the lines, or one refusal line for a bad sheet; 24 and nothing where they don't fit.
+// All of the lines, or one refusal line for a bad sheet; 24 and nothing where they don't fit. Memory is fixed: four lists hold any sheet's tables. As `lay` has
+// them: a function for both would take what writes as a closure, and its promise with it.
 pub fn answer_sheet(sheet: &[u8], out: &mut [u8]) -> Result<usize, Refusal>
     ensures { Whole (ok (lay_output sheet.now)) out.old result out.new }
 {

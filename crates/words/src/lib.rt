@@ -11,7 +11,7 @@ pub fn put_word(out: &mut [u8], at: usize, w: u32) -> usize
     ensures { Printed (little w) out.old at result out.new }
 {
     let bytes = w.to_le_bytes();
-    // a copy whose length isn't known takes longer
+    // four bytes that fit at once: a chain's steps go out sooner so (measured)
     if out.len() >= 4 && at <= out.len() - 4 {
         out[at..at + 4].copy_from_slice(&bytes);
         return at + 4;
