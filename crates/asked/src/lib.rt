@@ -1,5 +1,5 @@
 // T, Q, L and X over a table, as words into a lent list: all of them or none.
-// C hands over the table and the list apart, as two lists of words, and so they travel: one is read, the other written.
+// The table and the list are two lists of words in each function here, as C hands them over: the table is read, the list is written.
 #![tactic(auto)]
 
 ghost use Rattle.std.specs.Prelude.{◌≡◌, ◌++◌};
@@ -21,10 +21,7 @@ fn give_both(first: &[u32], second: &[u32], out: &mut [u32]) -> Result<usize, Re
         return Err(Refusal::SHORT_LIST);
     }
     spirv::put_words(out, 0, first);
-    // one by one: these are few, and a copy of a list of any length takes a call
-    for (i, w) in second.iter().enumerate() {
-        out[first.len() + i] = *w;
-    }
+    spirv::put_words(out, first.len(), second);
     Ok(first.len() + second.len())
 }
 
@@ -77,7 +74,7 @@ pub fn local_variable(table: &[u32], ptr: u32, out: &mut [u32]) -> Result<usize,
 
 // ---- T
 
-// The stride of an array; what is none has 0, no `None`, since this is the word that C takes.
+// The stride of an array, and 0 for all else: C takes one word for it, in which a `None` would have no place.
 fn stride_in(c: Components) -> u32
     ensures { result ≡ stride_in c }
 {
