@@ -15,7 +15,7 @@ use lower::QPtrOp;
 use spirv::Index;
 use steps::Steps;
 
-// Op 1 is H, 2 B, 3 O, 4 D. The bytes are a constant offset's. An index of kind 0 is known, one of kind 1 not. What a step does not have is 0.
+// Op 1 is H, 2 B, 3 O, 4 D. The bytes are a constant offset's. An index of kind 0 is a known one, of kind 1 an unknown one. What a step does not have is 0.
 // Op and kind are words, and no enums, since C reads them.
 #[repr(C)]
 #[derive(Clone, Copy, Default)]
@@ -34,6 +34,7 @@ pub struct QPtrChainStep {
 fn with_index(op: u32, stride: u32, length: u32, i: Index) -> QPtrChainStep
     ensures { result ≡ indexed op stride length i }
 {
+    // with the two words of `spirv::encode_index` the check doesn't find the proof (tried)
     let (index_kind, index) = match i {
         Index::Known(w) => (0, w),
         Index::Unknown(v) => (1, v),
@@ -48,7 +49,7 @@ fn with_index(op: u32, stride: u32, length: u32, i: Index) -> QPtrChainStep
     }
 }
 
-// No From: an impl with its law is longer, and says what the clause here says.
+// No From: an impl with its law is longer, and says what the clause here says. Beside `steps::words_of`, since C's record has other fields: made from its words, the bytes would be made signed again, and the stride told from them by the kind.
 #[tactic(auto, unfolding(crate::specs::Records::record_of))]
 pub fn record_of(s: QPtrOp) -> QPtrChainStep
     ensures { result ≡ record_of s }
@@ -85,7 +86,7 @@ fn write_records(records: &mut [QPtrChainStep], n: usize, steps: &Steps<'_>)
     }
 }
 
-// The steps that a walk left in five lists, as records; 24 where these don't fit.
+// The steps that a walk left in five lists, as records; 24 where these don't fit. As `tabled::put`, but for the room and the writer: with one function over both, these two would be closures with contracts of their own.
 fn put(
     walk: Result<usize, Refusal>,
     steps: &Steps<'_>,
@@ -101,7 +102,7 @@ fn put(
     Ok(n)
 }
 
-// The steps of a chain over a table, and how many.
+// The steps of a chain over a table, and how many. A function of one call: inside `lower_access_chain` the proof of that call needs a law of its own (tried).
 fn lower(
     records: &mut [QPtrChainStep],
     op: u32,

@@ -13,7 +13,7 @@ use arith::refusal::Refusal;
 use spirv::ChainOp;
 use steps::Steps;
 
-// The op that a number is, if it is one: SPIR-V's numbers, as C hands them over.
+// The op that a number is, if it is one: SPIR-V's numbers, as C hands them over. Beside `fields`' reader of an op, which reads a field of a sheet: digits, and not a number.
 #[tactic(auto, unfolding(crate::specs::Chains::op_of))]
 fn op_of(op: u32) -> Option<ChainOp>
     ensures { result ≡ op_of op }
@@ -33,10 +33,7 @@ pub fn ask(table: &[u32], op: u32, ptr: u32, chain: &[u8]) -> Result<ChainOp, Re
     ensures { result ≡ in_code (asked_in table.now op ptr chain.now) }
 {
     let asked = op_of(op).ok_or(Refusal::MISREAD)?;
-    if !wire::formed(chain) {
-        return Err(Refusal::MISREAD);
-    }
-    if spirv::word_at(table, 0) <= ptr {
+    if !wire::formed(chain) || spirv::word_at(table, 0) <= ptr {
         return Err(Refusal::MISREAD);
     }
     if tally::MAX_INDICES < chain.len() / 8 {
@@ -47,7 +44,7 @@ pub fn ask(table: &[u32], op: u32, ptr: u32, chain: &[u8]) -> Result<ChainOp, Re
 
 // ---- into five lists
 
-// The steps of what is asked into five lists; the indices' words are read into a list of WORDS, which is cleared: a short chain has a short one.
+// The steps of what is asked into five lists. The indices' words are read into a list of WORDS, so that little is cleared for a short chain.
 // Nine parameters: what C asks, and five lists, lent apart as `steps::store` takes them. The bounds of WORDS and of STEPS are clauses here and below: Rattle has no const block to assert them.
 pub fn walk_asked<const WORDS: usize>(
     table: &[u32],
@@ -82,7 +79,7 @@ pub fn walk_asked<const WORDS: usize>(
 
 // ---- as bytes
 
-// The steps that a walk left in five lists, as bytes; 24 where these don't fit.
+// The steps that a walk left in five lists, as bytes; 24 where these don't fit. It takes the walk's result, and no count: its contract is over that result, and so is that of `lower_into`.
 fn put(walk: Result<usize, Refusal>, steps: &Steps<'_>, out: &mut [u8]) -> Result<usize, Refusal>
     ensures { Lowered (in_room (room_in out.old) length (held_by walk steps.now.kinds.now steps.now.bytes.now steps.now.bounds.now steps.now.marks.now steps.now.indices.now)) result out.old out.new }
 {
@@ -94,10 +91,10 @@ fn put(walk: Result<usize, Refusal>, steps: &Steps<'_>, out: &mut [u8]) -> Resul
     Ok(n)
 }
 
-// The bytes of 8 indices, for which short lists suffice.
+// The bytes of 8 indices, for which short lists suffice: 244 bytes are cleared for these, and 7 KB for a longer chain.
 const SHORT_CHAIN: usize = 64;
 
-// In lists of so many steps and words, which are cleared.
+// A chain is lowered in lists of so many steps and words, and put. Six parameters, here and in `lower_into`: what C asks, the list, and who writes it. The five lists and the call stand in `pointing`, too: the lists have to be locals of who reads the steps, and in a struct nothing would be known of them after the call.
 fn lower<
     const STEPS: usize,
     const WORDS: usize,
@@ -136,7 +133,7 @@ fn lower<
     put(walk, &steps, out)
 }
 
-// The steps of a chain into a list, as `put` puts those that a walk left in five lists. Six parameters: what C asks, the list, and who writes it.
+// The steps of a chain into a list, as `put` puts those that a walk left in five lists.
 pub fn lower_into<T, F: Fn(Result<usize, Refusal>, &Steps<'_>, &mut [T]) -> Result<usize, Refusal>>(
     table: &[u32],
     op: u32,
