@@ -11,9 +11,9 @@ use records::Declared;
 use shapes::rows;
 use shapes::tables::{Layouts, Tables};
 
-// Where the parts of a table begin, as specs/Table.antt and the header for C have them: the number of types, the setting, the types, the members, their
-// given offsets and those computed, the rows of layouts. Each part ends where the next begins, the last one with the table. They are u32, as a span is
-// named by these; where a list is written they are widened, for which there is no From.
+// Where the parts of a table begin, as specs/Table.antt has them: the number of types, the setting, the types, the members, their given offsets and those
+// computed, the rows of layouts. Each part ends where the next begins, the last one with the table, whose length the header for C has too. They are u32,
+// since a span goes by these; where a list is written they are widened by `as`, for which there is no From.
 const COUNT_AT: usize = 0;
 const SETTING_AT: u32 = 1;
 const TYPES_AT: u32 = 7;

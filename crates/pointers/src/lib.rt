@@ -51,7 +51,8 @@ fn pointee_in(ws: &[u32; 6]) -> Result<u32, Refusal>
     }
 }
 
-// The pointee of type ptr; refused with 18 where that type is no pointer, and with 1 where there is no such type.
+// The pointee of type ptr; refused with 18 where that type is no pointer, and with 1 where there is no such type. Why its two lines stand
+// here and in places: see places::place_at.
 #[tactic(auto, using(crate::proofs::PointerRows::row_missing), unfolding(crate::specs::OverTables::pointee_at, spirv::specs::Rows::row_at))]
 pub fn pointee_at(tables: &Tables<'_>, ptr: u32) -> Result<u32, Refusal>
     ensures { result ≡ in_code (pointee_at tables.now.types.now tables.now.layouts.count ptr) }
