@@ -12,6 +12,7 @@ use lower::QPtrOp;
 use spirv::Index;
 use steps::Steps;
 
+// A number. Slice and place are lent apart, as `text` says at its head.
 pub fn number(out: &mut [u8], at: usize, n: u32) -> usize
     ensures { Printed (behind (decimal n ∷ [])) out.old at result out.new }
 {
@@ -82,7 +83,7 @@ pub fn step(out: &mut [u8], at: usize, s: QPtrOp) -> usize
     }
 }
 
-// The first `count` steps of five lists.
+// The first `count` steps of five lists. The loop of `wire::put_steps` has another printer: one function over both would take it as a closure, with a contract that the proofs of both cite, and the loop is four lines.
 pub fn first_steps(out: &mut [u8], at: usize, steps: &Steps<'_>, count: usize) -> usize
     ensures { Printed (behind (steps_fields (steps_in steps.now.kinds.now steps.now.bytes.now steps.now.bounds.now steps.now.marks.now steps.now.indices.now count))) out.old at result out.new }
 {

@@ -26,7 +26,7 @@ fn put<F: Fn(&mut [u8]) -> usize>(out: &mut [u8], print: F) -> Result<usize, Ref
     Ok(print(out))
 }
 
-// ---- each line: one call, so that a caller gives what the line shows, and no closure that prints it
+// ---- each line: one call, so that a caller gives what the line shows, and no closure that prints it. All are public, and a program of another's may call them: here only `put_refusal_line` has callers
 
 // `t,form,len,size,align,legacy,dyn`, then field offsets, or the stride.
 pub fn put_layout_line(out: &mut [u8], l: TypeLayout, offsets: &[u32]) -> Result<usize, Refusal>

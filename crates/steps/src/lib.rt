@@ -68,6 +68,7 @@ pub fn step_of(s: StepWords) -> QPtrOp
         1 => QPtrOp::HandleArrayIndex {
             index: spirv::index_of(s.index, s.mark),
         },
+        // by `as_signed`, whose contract names the number that the definition here names: with `cast_signed` the proof would be that contract's again
         3 => QPtrOp::Offset(arith::as_signed(s.bytes)),
         4 => QPtrOp::DynOffset {
             stride: s.bytes,
@@ -80,7 +81,7 @@ pub fn step_of(s: StepWords) -> QPtrOp
 
 // ---- in five lists
 
-// Five lists that hold steps, to be read: step j has its five words at place j.
+// Five lists that hold steps, to be read: step j has its five words at place j. How many steps, goes beside them, here and in the crates above: a walk tells it when its lists are there, and to cut them to it would be five slices.
 #[derive(Clone, Copy)]
 pub struct Steps<'a> {
     pub kinds: &'a [u32],
@@ -106,7 +107,7 @@ impl Steps<'_> {
     }
 }
 
-// A step at place n of the five lists. They are lent apart, as document 01 has them, here and in the crates above: of the lists in a struct that was handed on its maker knows nothing.
+// A step at place n of the five lists. They are lent apart, here and in the crates above: document 01 names five parallel slices, and a struct of `&mut` lists proves inside the functions that take it, but nothing is known of its maker's lists afterwards.
 pub fn store(
     s: QPtrOp,
     n: usize,

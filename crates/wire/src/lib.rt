@@ -27,7 +27,7 @@ fn put_five(out: &mut [u8], at: usize, w: StepWords) -> usize
     words::put_word(out, d, w.index)
 }
 
-// The first `count` steps of five lists, printed as the crate `text` prints.
+// The first `count` steps of five lists, printed as the crate `text` prints. Beside `cells::first_steps`, which says why.
 pub fn put_steps(out: &mut [u8], at: usize, steps: &Steps<'_>, count: usize) -> usize
     ensures { Printed (steps_bytes (steps_in steps.now.kinds.now steps.now.bytes.now steps.now.bounds.now steps.now.marks.now steps.now.indices.now count)) out.old at result out.new }
 {
