@@ -9,7 +9,7 @@ ghost use Rattle.comparing.specs.Contents.{same_contents};
 
 use shapes::{Components, Handle, MemTypeLayout, TypeLayout};
 
-// The numbers that the line of memory ends with: the stride, or the fields' offsets.
+// The numbers that the line of memory ends with: the stride, or the fields' offsets. `printing::layouts` prints them by the same three arms, but needs no list for a stride.
 fn last_numbers<'a>(p: &'a Components, offsets: &'a [u32]) -> &'a [u32]
     ensures { map decimal result.now ≡ parts_fields (parts_in offsets.now p.now) }
 {

@@ -9,7 +9,7 @@ ghost use Rattle.listing.specs.Listing.{lines_from, filled_with, Fills};
 
 use shapes::tables::Tables;
 
-// The lines of the questions from a place of the sheet on, printed as the crate `text` prints. No iterator, here and in `fill`: each question's indices are read into the same list.
+// The lines of the questions from a place of the sheet on, printed as the crate `text` prints. No iterator, here and in `fill`: each question's indices are read into the same list. That list is never short, so no refusal is lost by `unwrap_or`. `fill` has this loop again, but stops: it asks after each line, and this measures, too, on no room.
 pub fn put_answers(
     sheet: &[u8],
     from: usize,

@@ -12,7 +12,7 @@ use shapes::tables::Tables;
 use spirv::ChainOp;
 use steps::Steps;
 
-// The indices that a chain may have.
+// The indices that a chain may have: tally's MAX_INDICES, but no reader of sheets stands below this crate.
 const MAX_INDICES: usize = chain::MAX_WORDS / 2;
 
 // The steps that a chain may have.
@@ -21,13 +21,13 @@ const MAX_STEPS: usize = MAX_INDICES + 1;
 fn words_of(count: usize) -> u32
     ensures { result ≡ min (2 * count) 510 }
 {
-    // no From: a usize may be wider; the check proves that 510 fits
+    // no From: a usize may be wider; the check proves that what is cast, at most 255, fits
     2 * count.min(MAX_INDICES) as u32
 }
 
 // ---- the answer's line, or its refusal's: two arms each time; with one function over them, which takes the line as a closure, proofs that the check finds have to be written (tried)
 
-// C, with room for that many steps; `count` indices stand in front of the list. Seven parameters: C's three words are fields of a variant of `Ask`, which is no type to hand on.
+// C, with room for that many steps; `count` indices stand in front of the list. Seven parameters: C's three words are fields of a variant of `Ask`, which is no type to hand on. A count and a list, and no slice: the caller's list has room for the longest chain, and is cut here, once.
 pub fn chain_line(
     tables: &Tables<'_>,
     op: ChainOp,
@@ -40,7 +40,7 @@ pub fn chain_line(
     ensures { Printed (text_of (chain_reply tables.now.layouts.count tables.now.types.now tables.now.layouts.rows.now tables.now.layouts.offsets.now tables.now.layouts.members.now tables.now.cfg op ptr (indices_in (chain_words count list.now)))) out.old at result out.new }
 {
     let chain = shapes::rows::span(list, 0, words_of(count));
-    // lent apart, as `steps::store` takes them
+    // lent apart, as `steps::store` takes them; in `tabled`, too: in a struct that one function makes for both, nothing would be known of them after the call
     let mut kinds = [0u32; MAX_STEPS];
     let mut bytes = [0u32; MAX_STEPS];
     let mut bounds = [0u32; MAX_STEPS];

@@ -1,5 +1,5 @@
 // The line of a layout, `t,form,len,size,align,legacy,dyn`, then field offsets, or the stride. A struct's fields are a span of the sheet's list of offsets.
-ghost use Rattle.std.specs.Prelude.{◌∷◌};
+ghost use Rattle.std.specs.Prelude.{[], ◌∷◌};
 ghost use Rattle.text.specs.Printed.{Printed};
 ghost use Rattle.decimal.specs.Text.{bytes};
 ghost use Rattle.decimal.specs.Decimal.{decimal};
@@ -10,6 +10,7 @@ ghost use Rattle.printing.specs.Layouts.{parts_in, memory_in, layout_text};
 
 use shapes::{Components, Handle, MemTypeLayout, TypeLayout};
 
+// Beside `comparing`'s `last_numbers`, which has the same three arms: that answers a list, and this prints, an element's stride as a number
 fn parts(out: &mut [u8], at: usize, p: Components, offsets: &[u32]) -> usize
     ensures { Printed (behind (parts_fields (parts_in offsets.now p))) out.old at result out.new }
 {
@@ -35,6 +36,15 @@ fn memory(out: &mut [u8], at: usize, m: MemTypeLayout, offsets: &[u32]) -> usize
     parts(out, d, components, offsets)
 }
 
+// The form and the length, which each line has first.
+fn head(out: &mut [u8], at: usize, form: &[u8], len: u32) -> usize
+    ensures { Printed (behind (form.now ∷ decimal len ∷ [])) out.old at result out.new }
+{
+    let a = text::byte(out, at, b',');
+    let b = text::bytes(out, a, form);
+    cells::number(out, b, len)
+}
+
 // The line of memory, of a buffer, or of an array of buffers. Six parameters: a struct of form, length, memory and offsets would be written out at each of three calls.
 fn memory_line(
     out: &mut [u8],
@@ -47,23 +57,19 @@ fn memory_line(
     ensures { Printed (printed (bytes "t" ∷ form.now ∷ decimal len ∷ memory_fields (memory_in offsets.now m))) out.old at result out.new }
 {
     let a = text::byte(out, at, b't');
-    let b = text::byte(out, a, b',');
-    let c = text::bytes(out, b, form);
-    let d = cells::number(out, c, len);
-    let e = memory(out, d, m, offsets);
-    text::byte(out, e, b'\n')
+    let b = head(out, a, form, len);
+    let c = memory(out, b, m, offsets);
+    text::byte(out, c, b'\n')
 }
 
-// The line of an opaque, or of an array of them: as that of memory, but for the numbers. What they share is four calls, and would need five parameters.
+// The line of an opaque, or of an array of them: as that of memory, but for the numbers.
 fn opaque_line(out: &mut [u8], at: usize, form: &[u8], len: u32) -> usize
     ensures { Printed (printed (bytes "t" ∷ form.now ∷ decimal len ∷ opaque_fields)) out.old at result out.new }
 {
     let a = text::byte(out, at, b't');
-    let b = text::byte(out, a, b',');
-    let c = text::bytes(out, b, form);
-    let d = cells::number(out, c, len);
-    let e = text::bytes(out, d, b",0,0,0,0");
-    text::byte(out, e, b'\n')
+    let b = head(out, a, form, len);
+    let c = text::bytes(out, b, b",0,0,0,0");
+    text::byte(out, c, b'\n')
 }
 
 // The line of a layout whose fields are spans of these offsets: an arm for each of the five forms.
