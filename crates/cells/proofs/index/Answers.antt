@@ -2,8 +2,5 @@
 use Rattle.cells.proofs.Laws.{begun}
 use Rattle.cells.proofs.index.Goals as goal
 
-pub returns-in-Known : goal.returns-in-Known
-returns-in-Known c = rw c.in-Known.is c.number.ensures
-
 pub returns-in-Unknown : goal.returns-in-Unknown
 returns-in-Unknown c = rw c.in-Unknown.is (begun c.well_formed.0.0 c.bytes-digits.ensures c.print_unsigned.ensures)

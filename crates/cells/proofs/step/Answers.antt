@@ -15,6 +15,3 @@ pub returns-in-Offset : goal.returns-in-Offset
 returns-in-Offset c =
     let bytes-are = rw (to_z-of_z w32 c.in-Offset.bytes (search rules)) at c.signed.ensures in
     rw c.in-Offset.is (fields c.well_formed.0.0 _ _ (field c.bytes-a-in-Offset.ensures) bytes-are)
-
-pub returns-in-DynOffset : goal.returns-in-DynOffset
-returns-in-DynOffset c = rw c.in-DynOffset.is c.dyn_offset.ensures

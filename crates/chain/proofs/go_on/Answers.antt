@@ -1,16 +1,8 @@
 -- `chain::go_on` meets its contract: each move leads on as the definitions' walk. Assumes nothing.
-use Rattle.std.proofs.Common.{rules, ◌≡◌, ◌+◌, ◌*◌, ◌-◌, length, arith, take, drop, Ok, Err, refl, ap, length-drop}
-use Rattle.std.proofs.lemmas.Grind.{common_steps}
+use Rattle.std.proofs.Common.{rules, ◌≡◌, ◌+◌, ◌*◌, length, arith, Ok, Err, ap, length-drop}
 use mathlib.Core.Path.{sym, ◌∙◌}
 use Rattle.chain.proofs.Chains.{walk_ends, walk_goes, weight_most, entered}
 use Rattle.chain.proofs.go_on.Goals as goal
-
-pub loop-k-init : goal.loop-k-init
-loop-k-init c =
-    let start : c.args.from + 2 * 0 ≡ c.args.from = omega arith in
-    let all : take (length c.args.chain.now - c.args.from) (drop c.args.from c.args.chain.now) ≡ drop c.args.from c.args.chain.now = grind (arith, common_steps) in
-    rw (c.into_iter-k-iterator.ensures.into_iter_gives, c.enumerate-k-items.ensures.source, c.enumerate-k-items.ensures.count, start)
-    (c.chunks_exact.ensures.size, c.chunks_exact.ensures.rest ∙ all, c.requires.0, omega arith, refl)
 
 pub returns-in_err-v : goal.returns-in_err-v
 returns-in_err-v c =

@@ -1,7 +1,7 @@
 -- `decimal::read_number` meets its contract. Assumes nothing.
 use Rattle.std.proofs.Common.{sym, ap, ◌∙◌}
 use Rattle.arith.specs.InCode.{as_option}
-use Rattle.decimal.proofs.OneByOne.{unbegun, begun, turn, stop, done}
+use Rattle.decimal.proofs.OneByOne.{unbegun, begun, turn, stop}
 use Rattle.decimal.proofs.read_number.Goals as goal
 
 pub returns-then-not-well_begun : goal.returns-then-not-well_begun
@@ -15,6 +15,3 @@ returns-in_err-v c = c.from_residual.ensures ∙ stop _ _ _ c.loop-b.invariant c
 
 pub loop-b-preserved : goal.loop-b-preserved
 loop-b-preserved c = turn _ _ _ c.loop-b.invariant c.loop-b-test.true c.in_ok-v.ensures
-
-pub returns : goal.returns
-returns c = done _ _ _ c.loop-b.invariant c.loop-b-test.false

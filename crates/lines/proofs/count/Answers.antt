@@ -9,11 +9,6 @@ returns-in_err-end g c =
     let l : Lost g.read c.args.line.now c.loop-end.end = c.requires.1.1.1 _ _ c.in_err-end.ensures in
     c.from_residual.ensures ∙ sym (c.loop-end.invariant.1 ∙ count_lost _ l c.loop-end-test.true)
 
-pub loop-end-smaller : goal.loop-end-smaller
-loop-end-smaller g c =
-    let t : Got g.read c.args.line.now c.loop-end.end c.in_ok-end.field-0.value c.in_ok-end.field-0.end = c.requires.1.1.1 _ _ c.in_ok-end.ensures in
-    omega (arith, t.later, t.within)
-
 pub loop-end-preserved : goal.loop-end-preserved
 loop-end-preserved g c =
     let t : Got g.read c.args.line.now c.loop-end.end c.in_ok-end.field-0.value c.in_ok-end.field-0.end = c.requires.1.1.1 _ _ c.in_ok-end.ensures in

@@ -6,9 +6,3 @@ use Rattle.printing.proofs.layouts.parts.Goals as goal
 
 pub returns-in-Scalar : goal.returns-in-Scalar
 returns-in-Scalar c = rw (c.in-Scalar.is, no_fields) (none _ _ (search rules))
-
-pub returns-in-Elements : goal.returns-in-Elements
-returns-in-Elements c = rw c.in-Elements.is c.number.ensures
-
-pub returns-in-Fields : goal.returns-in-Fields
-returns-in-Fields c = rw (c.in-Fields.is, ← c.span.ensures) c.numbers.ensures
