@@ -84,6 +84,7 @@ fn stride_in(c: Components) -> u32
     }
 }
 
+// The numbers that `printing::layouts` prints, as words, with one more: C's stride is 0 where there is none.
 fn memory_head(form: u32, len: u32, m: MemTypeLayout) -> [u32; 7]
     ensures { result ≡ memory_head form len m }
 {
@@ -99,7 +100,7 @@ fn memory_head(form: u32, len: u32, m: MemTypeLayout) -> [u32; 7]
     ]
 }
 
-// What stands in front of the field offsets; the form's number is the word that C takes.
+// What stands in front of the field offsets; the form's number is the word that C takes. Beside `printing::layouts::layout_line`, whose five arms have letters.
 fn head_of(l: TypeLayout) -> [u32; 7]
     ensures { result ≡ head_of l }
 {
@@ -112,7 +113,7 @@ fn head_of(l: TypeLayout) -> [u32; 7]
     }
 }
 
-// The layout of a type: seven words, and the offsets of its fields.
+// The layout of a type: seven words, and the offsets of its fields. As `values::layout_into`, but that the list has room for both, or for none.
 pub fn type_layout(table: &[u32], ty: u32, out: &mut [u32]) -> Result<usize, Refusal>
     ensures { Whole (layout_for table.now ty) out.old result out.new }
 {

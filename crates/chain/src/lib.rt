@@ -24,7 +24,8 @@ pub enum Run {
     },
 }
 
-// From a place on, fields and constant elements are no more than offsets that wait.
+// From a place on, fields and constant elements are no more than offsets that wait. That the place is within the chain is required here and of both parts:
+// each cuts the chain there, or hands the place on.
 fn go_on(
     layouts: &Layouts<'_>,
     chain: &[u32],

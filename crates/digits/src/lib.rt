@@ -22,7 +22,7 @@ pub extern "C" fn digits_print_signed(out: &mut [u8], n: i32) -> usize
     decimal::print_signed(out, 0, n)
 }
 
-// The number that bytes spell, or 4294967296 where they spell none.
+// The number that bytes spell, or 4294967296 where they spell none: C has no Option, and no digits are read as that.
 #[unsafe(no_mangle)]
 pub extern "C" fn digits_read(f: &[u8]) -> u64
     ensures { result ≡ code_of (read_number f.now) }

@@ -95,7 +95,7 @@ impl ReadField for Stride {
     }
 }
 
-// 65, 66, 67 or 70, as a field has them; `tabled::op_of` reads them as C hands them over.
+// 65, 66, 67 or 70, as text; `tabled::op_of` reads the numbers that C hands over. By number here, its law would have to show that each has one spelling.
 impl ReadField for ChainOp {
     ghost read = { read_op };
 

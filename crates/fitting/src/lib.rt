@@ -35,7 +35,7 @@ pub fn put_layout_line(out: &mut [u8], l: TypeLayout, offsets: &[u32]) -> Result
     put(out, |out| layouts::layout_line(out, 0, l, offsets))
 }
 
-// `y` or `n`, by the bool that the Rust answers.
+// `y` or `n`: the bool is E's answer itself, and no switch.
 pub fn put_equal_line(out: &mut [u8], same: bool) -> Result<usize, Refusal>
     ensures { Whole (ok (equal_text same)) out.old result out.new }
 {

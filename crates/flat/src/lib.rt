@@ -12,15 +12,22 @@ use shapes::rows;
 use shapes::tables::{Layouts, Tables};
 
 // Where the parts of a table begin, as specs/Table.antt has them: the number of types, the setting, the types, the members, their given offsets and those
-// computed, the rows of layouts. Each part ends where the next begins, the last one with the table, whose length the header for C has too. They are u32,
-// since a span goes by these; where a list is written they are widened by `as`, for which there is no From.
+// computed, the rows of layouts. Each part ends where the next begins, the last one with the table, whose length the header for C has too. All but
+// COUNT_AT are u32, since a span goes by these; where a list is written or measured they are widened by `as`, for which there is no From.
 const COUNT_AT: usize = 0;
+
 const SETTING_AT: u32 = 1;
+
 const TYPES_AT: u32 = 7;
+
 const MEMBERS_AT: u32 = 1_543;
+
 const GIVEN_AT: u32 = 2_567;
+
 const OFFSETS_AT: u32 = 3_591;
+
 const LAYOUTS_AT: u32 = 4_615;
+
 const TABLE_WORDS: u32 = 7_175;
 
 // Lays out the types, and stores all parts. Two lists: one is read, the other written. The setting's words, which `all` has as a struct, are those that

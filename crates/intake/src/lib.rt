@@ -54,6 +54,7 @@ pub fn read_argument<'n, R: Env + Files + Eprint>(
     let n = match rt.arg(i, name) {
         Ok(n) => n,
         Err(FillError::NotPresent) => return Ok(Argument::Missing),
+        // a name that is too long is tried as an empty one, which no file has
         Err(FillError::TooLong) => 0,
     };
     let Ok(name) = str::from_utf8(&name[..n]) else {

@@ -64,7 +64,7 @@ fn count<T: Copy, F: Fn(usize) -> Option<Field<T>>>(
     Some(n)
 }
 
-// ---- the lines, behind their first field. Pairs of one shape (int and float, vector and matrix, T and X) are two or three calls with another constructor
+// ---- the lines, behind their first field. Pairs of one shape (declared and asked, int and float, vector and matrix, T and X) are two or three calls with another constructor
 // at the end: one function for both would take the constructor as a closure, with a ghost map from it to the grammar's form, and is longer.
 
 // What is left of a line, behind the field that ends at e, below `above` types.

@@ -9,7 +9,9 @@ ghost use Rattle.listing.specs.Listing.{lines_from, filled_with, Fills};
 
 use shapes::tables::Tables;
 
-// The lines of the questions from a place of the sheet on, printed as the crate `text` prints. No iterator, here and in `fill`: each question's indices are read into the same list. That list is never short, so no refusal is lost by `unwrap_or`. `fill` has this loop again, but stops: it asks after each line, and this measures, too, on no room.
+// The lines of the questions from a place of the sheet on, printed as the crate `text` prints. No iterator, here and in `fill`: each question's indices are read into the same list. That list is never short
+// for a sheet that was read; of another the lines end where a question has more indices, as the definition says. `fill` has this loop again, but stops where a
+// line doesn't fit: here all lines are counted, since `gathering` asks how long they are.
 pub fn put_answers(
     sheet: &[u8],
     from: usize,
@@ -30,7 +32,7 @@ pub fn put_answers(
 }
 
 // What a buffer was filled with: so many bytes, which are whole lines. Where there are more, the next one, of the question at or behind the place
-// `next`, doesn't fit behind them. No Option of a place: where there are no more, `next` and `bytes` tell, too, how far the lines go.
+// `next`, doesn't fit behind them. No Option of a place: in both cases the questions that are left begin at `next`.
 #[derive(Clone, Copy)]
 pub struct Filled {
     pub next: usize,

@@ -58,6 +58,7 @@ pub fn lower_access_chain(
 ) -> Result<usize, Refusal>
     ensures { Wrote 0 (chain_over (room_of kinds.old bytes.old bounds.old marks.old indices.old) tables.now.cfg tables.now.layouts.count tables.now.types.now tables.now.layouts.rows.now tables.now.layouts.offsets.now tables.now.layouts.members.now op ptr chain.now) result kinds.old bytes.old bounds.old marks.old indices.old kinds.new bytes.new bounds.new marks.new indices.new }
 {
+    // both are tested again below: 1 and 2 come before what the pointer's type is refused by
     let n = tables.layouts.count;
     if n <= ptr {
         return Err(Refusal::MISREAD);

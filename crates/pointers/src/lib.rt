@@ -79,7 +79,8 @@ pub struct ArrayLength {
     pub stride: u32,
 }
 
-// Two lists, since a struct's fields are a span of each.
+// Two lists, since a struct's fields are a span of each. `moves::field_way` looks up so, too, but judges the index and the offset first: what both share is two
+// lines.
 #[tactic(auto, using(lower::proofs::Fields::no_offset, lower::proofs::Fields::no_type, lower::proofs::Fields::field_there))]
 fn field_at(offsets: &[u32], types: &[u32], member: u32) -> Result<Field, Refusal>
     ensures { result ≡ as_field (field_at offsets.now types.now member) }

@@ -10,7 +10,8 @@ ghost use Rattle.printing.specs.Layouts.{parts_in, memory_in, layout_text};
 
 use shapes::{Components, Handle, MemTypeLayout, TypeLayout};
 
-// Beside `comparing`'s `last_numbers`, which has the same three arms: that answers a list, and this prints, an element's stride as a number
+// Beside `comparing`'s `last_numbers`, which has the same three arms: that answers a list that is compared,
+// and this prints, an element's stride as a number, of which no list is to be made.
 fn parts(out: &mut [u8], at: usize, p: Components, offsets: &[u32]) -> usize
     ensures { Printed (behind (parts_fields (parts_in offsets.now p))) out.old at result out.new }
 {
@@ -62,7 +63,8 @@ fn memory_line(
     text::byte(out, c, b'\n')
 }
 
-// The line of an opaque, or of an array of them: as that of memory, but for the numbers.
+// The line of an opaque, or of an array of them. Beside `memory_line`: one function for both would take what stands behind the head as a closure, and an opaque
+// has no memory to hand on.
 fn opaque_line(out: &mut [u8], at: usize, form: &[u8], len: u32) -> usize
     ensures { Printed (printed (bytes "t" ∷ form.now ∷ decimal len ∷ opaque_fields)) out.old at result out.new }
 {

@@ -12,7 +12,7 @@ use arith::refusal::Refusal;
 use shapes::MemLayout;
 use steps::Steps;
 
-// `y` or `n`, by the bool that the Rust answers.
+// `y` or `n`: the bool is E's answer itself, and no switch.
 #[tactic(auto, unfolding(answers::specs::Output::printed))]
 pub fn equal_line(out: &mut [u8], at: usize, same: bool) -> usize
     ensures { Printed (equal_text same) out.old at result out.new }

@@ -5,7 +5,8 @@ ghost use Rattle.recorded.specs.Records.{Recorded};
 
 use recorded::QPtrChainStep;
 
-// The steps of a chain over a table, and how many; or minus the refusal, and the structs as they were.
+// The steps of a chain over a table, and how many; or minus the refusal, and the structs as they were. Beside `qptr_lower_chain`, which writes a step's five words as
+// bytes: C has both, and these have fields of their own.
 pub fn qptr_lower_chain_steps(
     table: &[u32],
     op: u32,

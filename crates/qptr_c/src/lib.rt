@@ -57,7 +57,7 @@ pub extern "C" fn qptr_lower_chain_steps(
     qptr::step_structs::qptr_lower_chain_steps(table, op, ptr, indices, steps)
 }
 
-// ---- the other questions over a table: words, all of them or none, and how many; or minus the refusal, and the list as it was
+// ---- the other questions over a table: words, all of them or none, and how many; or minus the refusal, and the list as it was. Table and list are lent side by side, as C has them.
 
 // The layout of a type: form (1 memory, 2 buffer, 3 opaque, 4 and 5 arrays of these), length, size, alignment, legacy alignment, runtime stride, stride of an array, then field offsets.
 #[unsafe(no_mangle)]

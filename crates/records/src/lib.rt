@@ -13,7 +13,7 @@ use shapes::{Handle, LayoutConfig, TypeLayout, rows};
 use spirv::{DeclRow, Length, SpvType, Stride};
 use structs::Members;
 
-// What a sheet declares: its setting, n types as rows, the members of its structs, and the offsets that its D lines give.
+// What a sheet declares: its setting, n types as rows in a list of a fixed size, the members of its structs, and the offsets that its D lines give.
 #[derive(Clone, Copy)]
 pub struct Declared<'a> {
     pub cfg: LayoutConfig,
@@ -29,6 +29,7 @@ pub enum Rule {
     OfSetting { size: u32, align: u32 },
     OfWidth(u32),
     OfElements(ArrayParams),
+    // With Block, as SpvType::Struct has it.
     OfMembers(bool),
     OfHandle,
 }

@@ -24,6 +24,7 @@ struct Count {
     differing: u64,
 }
 
+// Wrapping, so that no bound is to be shown: there are never so many lines.
 impl AddAssign for Count {
     fn add_assign(&mut self, other: Count) {
         self.sheets = self.sheets.wrapping_add(other.sheets);
@@ -43,7 +44,8 @@ struct Record {
 
 // ---- bytes
 
-// The bytes from a place on, at most so many: those that are there. As `shapes::rows::span`, whose list and numbers are words.
+// The bytes from a place on, at most so many: those that are there. As `shapes::rows::span`, whose list and numbers are words: one for
+// both would be cast at each call there.
 fn part(s: &[u8], at: usize, most: usize) -> &[u8]
     ensures { result.now ≡ take most (drop at s.now) }
 {
@@ -56,7 +58,7 @@ fn between(s: &[u8], from: usize, to: usize) -> &[u8] {
     part(s, from, to.saturating_sub(from))
 }
 
-// The place behind the next byte c, from a place on; where there is none the end.
+// The place behind the next byte c, from a place on; where there is none the end, behind which nothing stands: a record that is cut off is misread or differs.
 fn behind(s: &[u8], at: usize, c: u8) -> usize
     ensures not_before { at ≤ result }
     ensures later { at < length s.now → at < result }
@@ -202,6 +204,7 @@ fn main(rt: HostRuntime) -> io::Result<()> {
     let mut total = Count::default();
     let mut name = [0u8; intake::LONGEST_NAME];
     let mut bundle = [0u8; MOST_READ];
+    // by number, as the runtime gives an argument; and the loop is seen to end
     for i in 1..=intake::MOST_ARGUMENTS {
         match intake::read_argument(&rt, i, &mut name, &mut bundle)? {
             Argument::File { size, .. } => total += replay(&mut out, &bundle[..size])?,

@@ -6,7 +6,8 @@ use crate::{LayoutConfig, TypeLayout, rows};
 use arith::refusal::Refusal;
 
 // The layouts of so many types, a row of ten words each, and the two lists of which a struct's fields are spans: their offsets and their types. The count stands
-// beside the rows since the lists that C lends are of a fixed size.
+// beside the rows since the lists that C lends are of a fixed size. A struct's two spans are taken where they are used, in three crates: a pair of them would be
+// taken apart at each.
 #[derive(Clone, Copy)]
 pub struct Layouts<'a> {
     pub rows: &'a [u32],

@@ -9,7 +9,7 @@ use crate::{
 };
 use arith::refusal::Refusal;
 
-// ---- to words
+// ---- to words; here and back they are functions and no From: an impl with its law is longer, and says what the clauses here say
 
 #[tactic(auto, unfolding(crate::specs::Words::memory_words))]
 fn memory_words(tag: u32, number: u32, m: MemTypeLayout) -> [u32; 10]

@@ -25,7 +25,8 @@ pub struct Placed {
 }
 
 // Members of structs, of one or of all, their types and given offsets, which are as many or none, beside the setting and the layouts of the first n types, in a
-// list of a fixed size. `records::Declared` has the types of a sheet in their place.
+// list of a fixed size. `records::Declared` has the types of a sheet in
+// their place; and it is no `Layouts`, whose offsets are the list that is being written.
 #[derive(Clone, Copy)]
 pub struct Members<'a> {
     pub cfg: LayoutConfig,

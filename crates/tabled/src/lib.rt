@@ -13,7 +13,8 @@ use arith::refusal::Refusal;
 use spirv::ChainOp;
 use steps::Steps;
 
-// The op that a number is, if it is one: SPIR-V's numbers, as C hands them over. Beside `fields`' reader of an op, which reads a field of a sheet: digits, and not a number.
+// The op that a number is, if it is one: SPIR-V's numbers, as C hands them over. Beside `fields`' reader of an op, which goes
+// by text. No TryFrom: an impl with its law is longer, and says what the clause here says.
 #[tactic(auto, unfolding(crate::specs::Chains::op_of))]
 fn op_of(op: u32) -> Option<ChainOp>
     ensures { result ≡ op_of op }
@@ -45,7 +46,8 @@ pub fn ask(table: &[u32], op: u32, ptr: u32, chain: &[u8]) -> Result<ChainOp, Re
 // ---- into five lists
 
 // The steps of what is asked into five lists. The indices' words are read into a list of WORDS, so that little is cleared for a short chain.
-// Nine parameters: what C asks, and five lists, lent apart as `steps::store` takes them. The bounds of WORDS and of STEPS are clauses here and below: Rattle has no const block to assert them.
+// Nine parameters: what C asks, which stays four, since a struct of them would be made in each function for C and only be taken apart here; and five lists, lent
+// apart as `steps::store` takes them. The bounds of WORDS and of STEPS are clauses here and below: Rattle has no const block to assert them.
 pub fn walk_asked<const WORDS: usize>(
     table: &[u32],
     op: u32,

@@ -12,7 +12,7 @@ use std::io::Write;
 
 const FOLD: u64 = 4_294_967_296;
 
-// More than the longest sheet has, so that a longer one is seen to be too long.
+// More than the longest sheet has, so that a longer one is seen to be too long; the limit itself is `reading`'s.
 const MOST_READ: usize = 65_540;
 
 // How many questions there are, and the fold of their words.
@@ -32,7 +32,7 @@ fn fold(start: u64, list: &[u32]) -> u64 {
     list.iter().fold(start, |h, w| fold_word(h, u64::from(*w)))
 }
 
-// The first items of a list, or all where it has fewer.
+// The first items of a list, or all where it has fewer. As `shapes::rows::span` from 0 on; a count is no word here.
 fn first(list: &[u32], count: usize) -> &[u32] {
     list.get(..count).unwrap_or(list)
 }
@@ -120,11 +120,12 @@ fn show(out: &mut impl Write, sheet: &[u8]) -> io::Result<()> {
     out.write_all(b"\n")
 }
 
-// As `replay` goes through its arguments; what each does with a file, and at the end, is its own.
+// As `replay` goes through its arguments: one loop for both would take what is done with a file as a closure that holds the writer and the total.
 fn main(rt: HostRuntime) -> io::Result<()> {
     let mut out = io::writer(&rt);
     let mut name = [0u8; intake::LONGEST_NAME];
     let mut sheet = [0u8; MOST_READ];
+    // by number, as the runtime gives an argument; and the loop is seen to end
     for i in 1..=intake::MOST_ARGUMENTS {
         match intake::read_argument(&rt, i, &mut name, &mut sheet)? {
             Argument::File { name, size } => {

@@ -10,7 +10,7 @@ use prepared::Ready;
 use shapes::tables::{Layouts, Tables};
 
 // All of the lines, or one refusal line for a bad sheet; 24 and nothing where they don't fit. Memory is fixed: four lists hold any sheet's tables. As `lay` has
-// them: a function for both would take what writes as a closure, and its promise with it.
+// them: a function for both would take what writes as a closure, and its promise with it; one for the struct alone would take its five parts.
 pub fn answer_sheet(sheet: &[u8], out: &mut [u8]) -> Result<usize, Refusal>
     ensures { Whole (ok (lay_output sheet.now)) out.old result out.new }
 {

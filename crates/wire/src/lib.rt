@@ -16,7 +16,7 @@ pub fn formed(s: &[u8]) -> bool
     s.len() % 8 == 0 && s.chunks_exact(8).all(|c| words::read_word(c, 4) <= 1)
 }
 
-// The five words of a step.
+// The five words of a step. Calls in a row: a loop would need an array of them, made for each step.
 fn put_five(out: &mut [u8], at: usize, w: StepWords) -> usize
     ensures { Printed (words_bytes w) out.old at result out.new }
 {
