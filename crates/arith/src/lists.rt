@@ -7,7 +7,7 @@ ghost use Rattle.arith.specs.Rows.{IsRow};
 pub fn put<T: Copy>(list: &mut [T], at: usize, items: &[T])
     ensures { list.new ≡ sets list.old at items.now }
 {
-    // a copy of all items apart: where their number is known it is a few stores, and a chain is lowered sooner (measured)
+    // all items apart: where their number is known, such a copy is a few stores
     if items.len() <= list.len() && at <= list.len() - items.len() {
         list[at..at + items.len()].copy_from_slice(items);
     } else if at < list.len() {
