@@ -54,6 +54,7 @@ fn pointee_in(ws: &[u32; 6]) -> Result<u32, Refusal>
 // The pointee of type ptr; refused with 18 where that type is no pointer, and with 1 where there is no such type. Why its two lines stand
 // here and in places: see places::place_at.
 #[tactic(auto, using(crate::proofs::PointerRows::row_missing), unfolding(crate::specs::OverTables::pointee_at, spirv::specs::Rows::row_at))]
+#[inline(always)]
 pub fn pointee_at(tables: &Tables<'_>, ptr: u32) -> Result<u32, Refusal>
     ensures { result ≡ in_code (pointee_at tables.now.types.now tables.now.layouts.count ptr) }
 {
@@ -159,7 +160,9 @@ fn length_of(layouts: &Layouts<'_>, l: TypeLayout, member: u32) -> Result<ArrayL
     }
 }
 
+// Inlined, as `local_variable` is, so that over a table of C's only those parts are found that the question looks into.
 #[tactic(auto, unfolding(arith::proofs::Opened::opened, lower::specs::Other::length_by))]
+#[inline(always)]
 pub fn array_length(tables: &Tables<'_>, ptr: u32, member: u32) -> Result<ArrayLength, Refusal>
     ensures { result ≡ as_length (length_over tables.now.layouts.count tables.now.types.now tables.now.layouts.rows.now tables.now.layouts.offsets.now tables.now.layouts.members.now ptr member) }
 {
@@ -183,6 +186,7 @@ fn fixed_memory(l: TypeLayout) -> Option<MemLayout>
 }
 
 #[tactic(auto, unfolding(arith::proofs::Opened::opened, lower::specs::Other::variable_by))]
+#[inline(always)]
 pub fn local_variable(tables: &Tables<'_>, ptr: u32) -> Result<Option<MemLayout>, Refusal>
     ensures { (f : Reading) → result ≡ as_variable (variable_by (pointee_at tables.now.types.now tables.now.layouts.count) (λ t. answer_by f (answer_at tables.now.layouts.rows.now tables.now.layouts.count t)) ptr) }
 {

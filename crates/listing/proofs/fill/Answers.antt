@@ -4,24 +4,16 @@ use Rattle.listing.proofs.Laws.{asked, not_asked}
 use Rattle.text.proofs.Laws.{kept}
 use borrow.Author.Rules.{rules}
 use mathlib.Core.Logic.{inl}
-use mathlib.Core.Path.{refl, ◌∙◌}
+use mathlib.Core.Path.{refl}
 use native.Mathlib.Omega.{arith}
 use Rattle.listing.proofs.fill.Goals as goal
 
 pub loop-q-init : goal.loop-q-init
 loop-q-init c = (begun _ _ _ _ _ _ (omega arith) refl, search rules, inl (refl, refl))
 
-pub shape_of-out-then-out-end : goal.shape_of-out-then-out-end
-shape_of-out-then-out-end c = kept _ c.put_answer-end.ensures ∙ kept _ c.loop-q.invariant.0.printed
-
 pub returns-then-out-end : goal.returns-then-out-end
 returns-then-out-end c =
     rw c.with.ensures (no_room (omega (arith, c.well_formed)) c.loop-q.invariant.0 c.loop-q.invariant.1 c.loop-q.invariant.2 (asked _ _ _ _ _ c.next_question.ensures c.unwrap_or.ensures c.in-Some.is) (omega (arith, c.next_question.auto, c.loop-q.invariant.0.room)) c.put_answer-end.ensures c.if-out-end.true)
-
-pub loop-q-smaller : goal.loop-q-smaller
-loop-q-smaller c =
-    let y = asked _ _ _ _ _ c.next_question.ensures c.unwrap_or.ensures c.in-Some.is in
-    omega (arith, y.later, y.within)
 
 pub loop-q-preserved : goal.loop-q-preserved
 loop-q-preserved c =
