@@ -4,12 +4,15 @@ use Rattle.listing.proofs.Laws.{asked, not_asked}
 use Rattle.text.proofs.Laws.{kept}
 use borrow.Author.Rules.{rules}
 use mathlib.Core.Logic.{inl}
-use mathlib.Core.Path.{refl}
+use mathlib.Core.Path.{refl, ◌∙◌}
 use native.Mathlib.Omega.{arith}
 use Rattle.listing.proofs.fill.Goals as goal
 
 pub loop-q-init : goal.loop-q-init
 loop-q-init c = (begun _ _ _ _ _ _ (omega arith) refl, search rules, inl (refl, refl))
+
+pub shape_of-out-then-out-end : goal.shape_of-out-then-out-end
+shape_of-out-then-out-end c = kept _ c.put_answer-end.ensures ∙ kept _ c.loop-q.invariant.0.printed
 
 pub returns-then-out-end : goal.returns-then-out-end
 returns-then-out-end c =
