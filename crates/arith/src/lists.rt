@@ -1,7 +1,19 @@
 // Elements stored in a list one behind the other, and rows of them.
-ghost use Rattle.std.specs.Prelude.{◌≡◌, ◌+◌, ◌*◌, ◌<◌, length, MatchOption};
+ghost use Rattle.std.specs.Prelude.{◌≡◌, ◌+◌, ◌*◌, ◌<◌, ◌≤◌, length, MatchOption};
 ghost use Rattle.std.proofs.lemmas.List.Edits.{sets};
 ghost use Rattle.arith.specs.Rows.{IsRow};
+
+// The items from `at` on, where there is room for all. By number: a slice that is copied as a whole is a call of memmove, where it isn't known to lie apart
+// from the list, and that is one name more that a host of the C library has to bring.
+#[inline(always)]
+fn put_all<T: Copy>(list: &mut [T], at: usize, items: &[T])
+    requires { at + length items.now ≤ length list.old }
+    ensures { list.new ≡ sets list.old at items.now }
+{
+    for i in 0..items.len() {
+        list[at + i] = items[i];
+    }
+}
 
 // The items from `at` on; what lies past the list's end is left out.
 pub fn put<T: Copy>(list: &mut [T], at: usize, items: &[T])
@@ -9,10 +21,10 @@ pub fn put<T: Copy>(list: &mut [T], at: usize, items: &[T])
 {
     // all items apart: where their number is known, such a copy is a few stores
     if items.len() <= list.len() && at <= list.len() - items.len() {
-        list[at..at + items.len()].copy_from_slice(items);
+        put_all(list, at, items);
     } else if at < list.len() {
         let n = list.len() - at;
-        list[at..].copy_from_slice(&items[..n]);
+        put_all(list, at, &items[..n]);
     }
 }
 

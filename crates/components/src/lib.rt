@@ -148,8 +148,10 @@ fn in_room(
     Ok(collect(layouts, c, range, out))
 }
 
-// The components of type t that hold a range of bytes, rising: 28, layout, 19, 24.
+// The components of type t that hold a range of bytes, rising: 28, layout, 19, 24. Inlined, and the tables are lent on as a copy, so that over a table of C's
+// they are stored only where a type has components.
 #[tactic(auto, unfolding(arith::proofs::Opened::opened, layout::specs::Lookup::lookup_by, layout::specs::Lookup::in_memory_only, crate::specs::Found::lookup_both))]
+#[inline(always)]
 pub fn find_components_containing(
     layouts: &Layouts<'_>,
     t: u32,
@@ -167,5 +169,6 @@ pub fn find_components_containing(
     let TypeLayout::Concrete(m) = layouts.answer_at(t)? else {
         return Err(Refusal::NO_PARTS);
     };
-    in_room(layouts, m.components, &range, out)
+    let lent = *layouts;
+    in_room(&lent, m.components, &range, out)
 }

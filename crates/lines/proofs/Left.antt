@@ -48,10 +48,10 @@ not_ended a line e h = let q = some_behind line e h in rw q.2
 pub ended : {A : Type 0} (a : A) (line : List ℕ) (e : ℕ) → length line ≤ e → end a (behind line e) ≡ some a
 ended a line e h = rw (behind_none line e h)
 
-declares : (above : ℕ) (line : List ℕ) (t : SpvType) (e : ℕ) → length line ≤ e → Declares above line t 0 e (end (declare t) (behind line e))
+pub declares : (above : ℕ) (line : List ℕ) (t : SpvType) (e : ℕ) → length line ≤ e → Declares above line t 0 e (end (declare t) (behind line e))
 declares above line t e h = record { members = []; read = rw (behind_none line e h); count = refl; told = ended (declare t) line e h }
 
-asks : (line : List ℕ) (a : Ask) (e : ℕ) → length line ≤ e → count_of a ≡ 0 → Asks line a e (end (Asked (question_of a [])) (behind line e))
+pub asks : (line : List ℕ) (a : Ask) (e : ℕ) → length line ≤ e → count_of a ≡ 0 → Asks line a e (end (Asked (question_of a [])) (behind line e))
 asks line a e h z = record { indices = []; read = rw (behind_none line e h); count = sym z; told = ended (Asked (question_of a [])) line e h }
 
 -- what is said where the line ends

@@ -4,7 +4,7 @@
 ghost use Rattle.std.specs.Prelude.{◌≡◌, List, [], ℕ, ◌+◌, set, Option};
 ghost use Rattle.std.proofs.Math.Option as math;
 ghost use Rattle.std.proofs.lemmas.List.Edits.{sets};
-ghost use Rattle.sheet.specs.Fields.{read_type, read_index, read_all, end};
+ghost use Rattle.sheet.specs.Fields.{read_type, read_op, read_index, read_all, end};
 ghost use Rattle.sheet.specs.Grammar.{Asked, declare, read_line};
 ghost use Rattle.fields.specs.declared.Field.{Field};
 ghost use Rattle.fields.specs.Pieces.{behind};
@@ -76,6 +76,7 @@ struct Rest<'a> {
 }
 
 // A type that has no further field.
+#[inline(always)]
 fn declared(line: &[u8], e: usize, ty: SpvType) -> Option<SheetLine>
     ensures { (above : ℕ) → Says above line.now result (end (declare ty) (behind line.now e)) }
 {
@@ -87,6 +88,7 @@ fn declared(line: &[u8], e: usize, ty: SpvType) -> Option<SheetLine>
 }
 
 // A question that has no further field.
+#[inline(always)]
 fn asked(line: &[u8], e: usize, ask: Ask) -> Option<SheetLine>
     requires { count_of ask ≡ 0 }
     ensures { (above : ℕ) → Says above line.now result (end (Asked (question_of ask [])) (behind line.now e)) }
@@ -94,9 +96,9 @@ fn asked(line: &[u8], e: usize, ask: Ask) -> Option<SheetLine>
     (line.len() <= e).then_some(SheetLine::Asked { ask, at: e })
 }
 
-// The setting, on line 1. It and three more long lines aren't put into read_line, where every line would pay for their values; and read_line is put
-// into what calls it, so that what a line says isn't copied. Reading takes a tenth less time so (measured).
-#[inline(never)]
+// The setting, on line 1. All lines are put into read_line, and read_line into what calls it: where one of them is called, what a line says is stored by its
+// parts and read back as a whole, and lines that declare types take up to a half more time (measured).
+#[inline(always)]
 fn setting_line(r: &Rest<'_>) -> Option<SheetLine>
     ensures { SaysAs r.now.above "G" r.now.line.now r.now.e result }
 {
@@ -117,6 +119,7 @@ fn setting_line(r: &Rest<'_>) -> Option<SheetLine>
 }
 
 // An integer type.
+#[inline(always)]
 fn int_line(r: &Rest<'_>) -> Option<SheetLine>
     ensures { SaysAs r.now.above "I" r.now.line.now r.now.e result }
 {
@@ -125,6 +128,7 @@ fn int_line(r: &Rest<'_>) -> Option<SheetLine>
 }
 
 // A float type.
+#[inline(always)]
 fn float_line(r: &Rest<'_>) -> Option<SheetLine>
     ensures { SaysAs r.now.above "F" r.now.line.now r.now.e result }
 {
@@ -133,6 +137,7 @@ fn float_line(r: &Rest<'_>) -> Option<SheetLine>
 }
 
 // A vector type.
+#[inline(always)]
 fn vector_line(r: &Rest<'_>) -> Option<SheetLine>
     ensures { SaysAs r.now.above "V" r.now.line.now r.now.e result }
 {
@@ -149,6 +154,7 @@ fn vector_line(r: &Rest<'_>) -> Option<SheetLine>
 }
 
 // A matrix type.
+#[inline(always)]
 fn matrix_line(r: &Rest<'_>) -> Option<SheetLine>
     ensures { SaysAs r.now.above "M" r.now.line.now r.now.e result }
 {
@@ -165,6 +171,7 @@ fn matrix_line(r: &Rest<'_>) -> Option<SheetLine>
 }
 
 // An array type.
+#[inline(always)]
 fn array_line(r: &Rest<'_>) -> Option<SheetLine>
     ensures { SaysAs r.now.above "A" r.now.line.now r.now.e result }
 {
@@ -183,6 +190,7 @@ fn array_line(r: &Rest<'_>) -> Option<SheetLine>
 }
 
 // An array type without length.
+#[inline(always)]
 fn runtime_line(r: &Rest<'_>) -> Option<SheetLine>
     ensures { SaysAs r.now.above "R" r.now.line.now r.now.e result }
 {
@@ -199,6 +207,7 @@ fn runtime_line(r: &Rest<'_>) -> Option<SheetLine>
 }
 
 // A pointer type.
+#[inline(always)]
 fn pointer_line(r: &Rest<'_>) -> Option<SheetLine>
     ensures { SaysAs r.now.above "P" r.now.line.now r.now.e result }
 {
@@ -215,6 +224,7 @@ fn pointer_line(r: &Rest<'_>) -> Option<SheetLine>
 }
 
 // The layout of a type.
+#[inline(always)]
 fn t_line(r: &Rest<'_>) -> Option<SheetLine>
     ensures { SaysAs r.now.above "T" r.now.line.now r.now.e result }
 {
@@ -223,6 +233,7 @@ fn t_line(r: &Rest<'_>) -> Option<SheetLine>
 }
 
 // Whether two types are laid out the same.
+#[inline(always)]
 fn e_line(r: &Rest<'_>) -> Option<SheetLine>
     ensures { SaysAs r.now.above "E" r.now.line.now r.now.e result }
 {
@@ -232,6 +243,7 @@ fn e_line(r: &Rest<'_>) -> Option<SheetLine>
 }
 
 // The components that hold a range.
+#[inline(always)]
 fn q_line(r: &Rest<'_>) -> Option<SheetLine>
     ensures { SaysAs r.now.above "Q" r.now.line.now r.now.e result }
 {
@@ -242,6 +254,7 @@ fn q_line(r: &Rest<'_>) -> Option<SheetLine>
 }
 
 // The length of a runtime array.
+#[inline(always)]
 fn l_line(r: &Rest<'_>) -> Option<SheetLine>
     ensures { SaysAs r.now.above "L" r.now.line.now r.now.e result }
 {
@@ -251,6 +264,7 @@ fn l_line(r: &Rest<'_>) -> Option<SheetLine>
 }
 
 // A local variable.
+#[inline(always)]
 fn x_line(r: &Rest<'_>) -> Option<SheetLine>
     ensures { SaysAs r.now.above "X" r.now.line.now r.now.e result }
 {
@@ -259,7 +273,7 @@ fn x_line(r: &Rest<'_>) -> Option<SheetLine>
 }
 
 // A struct type, of as many members as it says.
-#[inline(never)]
+#[inline(always)]
 fn struct_line(r: &Rest<'_>) -> Option<SheetLine>
     ensures { SaysAs r.now.above "S" r.now.line.now r.now.e result }
 {
@@ -275,7 +289,7 @@ fn struct_line(r: &Rest<'_>) -> Option<SheetLine>
 }
 
 // A decoration of the last struct.
-#[inline(never)]
+#[inline(always)]
 fn decoration_line(r: &Rest<'_>) -> Option<SheetLine>
     ensures { SaysAs r.now.above "D" r.now.line.now r.now.e result }
 {
@@ -287,12 +301,21 @@ fn decoration_line(r: &Rest<'_>) -> Option<SheetLine>
     }))
 }
 
-// A chain with its indices.
+// The op of a chain. Called, and not inlined as all else here: it is told by texts, constants that are read, and what reads numbers holds none
+// (tools/tableless).
 #[inline(never)]
+fn op_at(line: &[u8], e: usize) -> Option<Field<ChainOp>>
+    ensures { Took read_op line.now e result }
+{
+    ChainOp::next(line, e)
+}
+
+// A chain with its indices.
+#[inline(always)]
 fn c_line(r: &Rest<'_>) -> Option<SheetLine>
     ensures { SaysAs r.now.above "C" r.now.line.now r.now.e result }
 {
-    let op = ChainOp::next(r.line, r.e)?;
+    let op = op_at(r.line, r.e)?;
     let ptr = fields::type_at(r.line, op.end, r.above)?;
     let count = count(r.line, ptr.end, |e| Index::next(r.line, e))?;
     Some(SheetLine::Asked {

@@ -134,6 +134,7 @@ fn stride_of_part(l: TypeLayout) -> Result<u32, Refusal>
 
 // Of a buffer's member.
 #[tactic(auto, unfolding(arith::proofs::Opened::opened, lower::specs::Other::length_in))]
+#[inline(always)]
 fn length_in(layouts: &Layouts<'_>, m: MemTypeLayout, member: u32) -> Result<ArrayLength, Refusal>
     ensures { result ≡ as_length (length_in (answers_in layouts.now.rows.now layouts.now.count layouts.now.offsets.now layouts.now.members.now) (memory_by (spans_of layouts.now.offsets.now layouts.now.members.now) m) member) }
 {
@@ -149,8 +150,9 @@ fn length_in(layouts: &Layouts<'_>, m: MemTypeLayout, member: u32) -> Result<Arr
     })
 }
 
-// Of a layout's member; refused with 25 where the layout is of no buffer.
+// Of a layout's member; refused with 25 where the layout is of no buffer. Inlined with `length_in`, else the parts of the table would be stored to be lent to it.
 #[tactic(auto, unfolding(arith::proofs::Opened::opened, lower::specs::Other::buffer_of))]
+#[inline(always)]
 fn length_of(layouts: &Layouts<'_>, l: TypeLayout, member: u32) -> Result<ArrayLength, Refusal>
     ensures { result ≡ as_length (length_of (answers_in layouts.now.rows.now layouts.now.count layouts.now.offsets.now layouts.now.members.now) (layout_by (spans_of layouts.now.offsets.now layouts.now.members.now) l) member) }
 {

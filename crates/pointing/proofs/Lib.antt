@@ -1,2 +1,2 @@
 pub mod Chains
-mod Laws
+pub mod Laws

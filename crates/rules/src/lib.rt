@@ -188,8 +188,9 @@ fn array_of_layout(cfg: LayoutConfig, p: ArrayParams, e: TypeLayout) -> Result<T
     }
 }
 
-// A vector, matrix or array by what its element's type answers; zero length comes before that.
+// A vector, matrix or array by what its element's type answers; zero length comes before that. Inlined, else its answer would be stored and read back.
 #[tactic(auto, unfolding(arith::proofs::Opened::opened, layout::specs::Arrays::array_layout))]
+#[inline(always)]
 pub fn array(
     cfg: LayoutConfig,
     p: ArrayParams,

@@ -2,6 +2,8 @@
 // there are and a fold of each table. Tested against tools/tables; its own functions are proved safe, and promise nothing more.
 #![tactic(auto)]
 
+ghost use Rattle.std.specs.Prelude.{◌≤◌};
+
 use arith::refusal::Refusal;
 use asking::Question;
 use intake::Argument;
@@ -80,9 +82,16 @@ fn fold_questions(sheet: &[u8], indices: &mut [u32]) -> Result<Asked, Refusal> {
     Ok(asked)
 }
 
-// How many members the type of a row has; other types than structs have none.
-fn row_members(row: &[u32]) -> usize {
-    spirv::decode_row(row).map_or(0, |r| r.count as usize)
+// How many members the type of a row has; other types than structs have none, and a row of more than a sheet can have counts for none.
+fn row_members(row: &[u32]) -> usize
+    ensures { result ≤ 1024 }
+{
+    let count = spirv::decode_row(row).map_or(0, |r| r.count as usize);
+    if count <= tally::MAX_MEMBERS {
+        count
+    } else {
+        0
+    }
 }
 
 // The members of the structs among the first types.
